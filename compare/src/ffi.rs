@@ -1,0 +1,94 @@
+//! The C interface of the library, behind safe functions that watch all lent memory: the input, what stands around it, and
+//! everything that a call may not write.
+
+/// An answer as document 01 gives it.
+#[derive(Clone, Debug, PartialEq, Eq)]
+pub enum Answer<T> {
+    Given(T),
+    None,
+    Refused(u32),
+}
+
+impl<T> Answer<T> {
+    pub fn map<U>(self, f: impl FnOnce(T) -> U) -> Answer<U> {
+        match self {
+            Answer::Given(t) => Answer::Given(f(t)),
+            Answer::None => Answer::None,
+            Answer::Refused(n) => Answer::Refused(n),
+        }
+    }
+}
+
+unsafe extern "C" {
+    fn film_read_atom_header(s: *const u8, len: usize, at: u64, out: *mut u64) -> u32;
+    fn film_next_child(s: *const u8, len: usize, at: u64, known: u32, end: u64, out: *mut u64) -> u32;
+    fn film_read_payload(s: *const u8, len: usize, at: u64, out: *mut u64) -> u32;
+    fn film_read_payload_bounded(s: *const u8, len: usize, at: u64, max_remaining: u64, out: *mut u64) -> u32;
+}
+
+const OK: u32 = 0;
+const NONE: u32 = 255;
+const GUARD: u64 = 0xdead_beef_0bad_cafe;
+const GUARDS: usize = 4;
+
+/// An input between guard bytes; a call reads the middle.
+pub struct Input {
+    framed: Vec<u8>,
+    kept: Vec<u8>,
+}
+
+impl Input {
+    pub fn new(bytes: &[u8]) -> Self {
+        let mut framed = vec![0xa5; 16];
+        framed.extend_from_slice(bytes);
+        framed.extend_from_slice(&[0x5a; 16]);
+        Input { kept: framed.clone(), framed }
+    }
+
+    fn part(&self, len: usize) -> *const u8 {
+        assert!(len + 32 <= self.framed.len());
+        self.framed[16..].as_ptr()
+    }
+
+    /// The input and its frame are as they were.
+    pub fn check(&self) {
+        assert!(self.framed == self.kept, "an input was written");
+    }
+}
+
+/// Calls with an `out` of N numbers between guards: written whole with OK, untouched otherwise.
+fn with_out<const N: usize>(call: impl FnOnce(*mut u64) -> u32) -> Answer<[u64; N]> {
+    let mut framed = vec![GUARD; N + 2 * GUARDS];
+    let status = call(framed[GUARDS..].as_mut_ptr());
+    let (front, rest) = framed.split_at(GUARDS);
+    let (out, back) = rest.split_at(N);
+    assert!(front.iter().chain(back).all(|&g| g == GUARD), "memory beside `out` was written");
+    if status == OK {
+        return Answer::Given(out.try_into().unwrap());
+    }
+    assert!(out.iter().all(|&g| g == GUARD), "`out` was written without a value");
+    if status == NONE { Answer::None } else { Answer::Refused(status) }
+}
+
+/// A header's numbers: type, open, size, header length, place of the body.
+pub fn read_atom_header(s: &Input, len: usize, at: u64) -> Answer<[u64; 5]> {
+    with_out(|out| unsafe { film_read_atom_header(s.part(len), len, at, out) })
+}
+
+/// The place of the next child, and the header's numbers.
+pub fn next_child(s: &Input, len: usize, at: u64, end: Option<u64>) -> Answer<[u64; 6]> {
+    let (known, end) = match end {
+        Some(end) => (1, end),
+        None => (0, 77),
+    };
+    with_out(|out| unsafe { film_next_child(s.part(len), len, at, known, end, out) })
+}
+
+/// The place and the length of a body.
+pub fn read_payload(s: &Input, len: usize, at: u64) -> Answer<[u64; 2]> {
+    with_out(|out| unsafe { film_read_payload(s.part(len), len, at, out) })
+}
+
+pub fn read_payload_bounded(s: &Input, len: usize, at: u64, max_remaining: u64) -> Answer<[u64; 2]> {
+    with_out(|out| unsafe { film_read_payload_bounded(s.part(len), len, at, max_remaining, out) })
+}

@@ -1,0 +1,109 @@
+use native.Mathlib.Omega.{arith}
+use Rattle.fields.proofs.Bytes.{beAt-split}
+use borrow.Author.Needs.{needs}
+use Rattle.fields.proofs.window.Statement.{statement}
+use Rattle.fields.proofs.window.Tie as tie
+use Rattle.fields.proofs.window.Reads as reads
+use Rattle.fields.proofs.window.Lts as lts
+use Rattle.fields.proofs.byte_or_zero.Reads as byte-or-zero-reads
+
+-- src/lib.rt:51:16
+byte-or-zero-requires : tie.Need-byte-or-zero-requires
+byte-or-zero-requires c κs = search needs
+
+-- src/lib.rt:51:16
+mul-high : tie.Need-mul-high
+mul-high c = search needs
+
+-- src/lib.rt:51:65
+add-byte-or-zero : tie.Need-add-byte-or-zero
+add-byte-or-zero c = search needs
+
+-- src/lib.rt:51:49
+byte-or-zero-requires-2 : tie.Need-byte-or-zero-requires-2
+byte-or-zero-requires-2 c κs = search needs
+
+-- src/lib.rt:51:49
+mul-high-2 : tie.Need-mul-high-2
+mul-high-2 c = search needs
+
+-- src/lib.rt:51:16
+add-high : tie.Need-add-high
+add-high c = search needs
+
+-- src/lib.rt:52:31
+add-byte-or-zero-2 : tie.Need-add-byte-or-zero-2
+add-byte-or-zero-2 c = search needs
+
+-- src/lib.rt:52:15
+byte-or-zero-requires-3 : tie.Need-byte-or-zero-requires-3
+byte-or-zero-requires-3 c κs = search needs
+
+-- src/lib.rt:52:15
+mul-low : tie.Need-mul-low
+mul-low c = search needs
+
+-- src/lib.rt:52:63
+add-byte-or-zero-3 : tie.Need-add-byte-or-zero-3
+add-byte-or-zero-3 c = search needs
+
+-- src/lib.rt:52:47
+byte-or-zero-requires-4 : tie.Need-byte-or-zero-requires-4
+byte-or-zero-requires-4 c κs = search needs
+
+-- src/lib.rt:52:15
+add-low : tie.Need-add-low
+add-low c = search needs
+
+-- src/lib.rt:53:6
+add-result : tie.Need-add-result
+add-result c = search needs
+
+-- src/lib.rt:53:5
+mul-result : tie.Need-mul-result
+mul-result c = search needs
+
+-- src/lib.rt:53:42
+add-byte-or-zero-4 : tie.Need-add-byte-or-zero-4
+add-byte-or-zero-4 c = search needs
+
+-- src/lib.rt:53:26
+byte-or-zero-requires-5 : tie.Need-byte-or-zero-requires-5
+byte-or-zero-requires-5 c κs = search needs
+
+-- src/lib.rt:53:5
+add-result-2 : tie.Need-add-result-2
+add-result-2 c = search needs
+
+-- src/lib.rt:47:1
+returns : tie.Need-returns
+returns c = (
+  let a = c .before .before .before .before .before .before .args in
+      let s = a .s .now in
+      let p = a .at in
+      omega (arith, beAt-split 1 1 s p, beAt-split 2 1 s p, beAt-split 3 1 s p, beAt-split 4 1 s p),
+  omega arith,
+)
+
+pub window-spec : {M : Type 1} → statement M
+window-spec =
+    tie.close
+    (tie.spec
+    byte-or-zero-requires
+    mul-high
+    add-byte-or-zero
+    byte-or-zero-requires-2
+    mul-high-2
+    add-high
+    add-byte-or-zero-2
+    byte-or-zero-requires-3
+    mul-low
+    add-byte-or-zero-3
+    byte-or-zero-requires-4
+    add-low
+    add-result
+    mul-result
+    add-byte-or-zero-4
+    byte-or-zero-requires-5
+    add-result-2
+    returns)

@@ -1,0 +1,3 @@
+pub mod Answer
+pub mod Fourcc
+pub mod Number

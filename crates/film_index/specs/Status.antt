@@ -1,0 +1,22 @@
+-- What a function of the C interface returns and what it writes: 0 and the numbers of a value, 255 for none and done, else the number of
+-- the refusal. Only with 0 is anything written.
+use Prim.Native.Nat.{ℕ}
+use mathlib.Core.Path.{_≡_}
+use mathlib.Core.List.{List}
+use lib.Seq.{sets}
+use Rattle.fields.specs.Answer.{Answer, given, none, refused}
+
+abbrev pub statusOf : {A : Type 0} → Answer A → ℕ
+statusOf (given a) = 0
+statusOf none = 255
+statusOf (refused n) = n
+
+-- the numbers of a value stored from place 0 on; every other number stays
+abbrev pub written : {A : Type 0} → (A → List ℕ) → Answer A → List ℕ → List ℕ
+written numbers (given a) out = sets out 0 (numbers a)
+written numbers none out = out
+written numbers (refused n) out = out
+
+pub record Returns {A : Type 0} (told : Answer A) (numbers : A → List ℕ) (before after : List ℕ) (r : ℕ) : Type 0 where
+  pub status : r ≡ statusOf told
+  pub out : after ≡ written numbers told before

@@ -1,0 +1,30 @@
+/* Film index: atoms of QuickTime and MP4 films. The functions of libfilm_index.a.
+ *
+ * Each function reads its input and returns a status: FILM_OK, FILM_NONE, or the number of a refusal (docs/REFUSALS.md).
+ * Only with FILM_OK is `out` written, and then all of it. Nothing else is touched, no input is kept, and every call ends.
+ * A pointer may be dangling, but not null, where its length is 0.
+ */
+#ifndef FILM_INDEX_H
+#define FILM_INDEX_H
+
+#include <stddef.h>
+#include <stdint.h>
+
+#define FILM_OK 0u
+#define FILM_NONE 255u
+
+/* The header at place `at` of the `len` bytes at `s`; FILM_NONE where no byte stands there.
+ * out: type (four bytes, big-endian), open-ended (0 or 1), total size (0 if open-ended), header length, place of the body. */
+uint32_t film_read_atom_header(const uint8_t *s, size_t len, uint64_t at, uint64_t out[5]);
+
+/* The child at place `at` of a container that ends at `end` (if `known` is not 0); FILM_NONE where the walk is done.
+ * out: place of the next child, then the five numbers of the child's header. */
+uint32_t film_next_child(const uint8_t *s, size_t len, uint64_t at, uint32_t known, uint64_t end, uint64_t out[6]);
+
+/* The body of the atom whose header stands at place `at`. out: place and length of the body. */
+uint32_t film_read_payload(const uint8_t *s, size_t len, uint64_t at, uint64_t out[2]);
+
+/* The same where the body may have at most `max_remaining` bytes. */
+uint32_t film_read_payload_bounded(const uint8_t *s, size_t len, uint64_t at, uint64_t max_remaining, uint64_t out[2]);
+
+#endif
