@@ -3,6 +3,7 @@
 use super::ffi::{self, Answer, Input};
 use super::random::Random;
 use super::tally::Tally;
+use super::vectors::Vectors;
 use crate::atom::{self, AtomHeader};
 use crate::standalone::{Error, Result};
 use std::io::{Cursor, Read, Seek, SeekFrom};
@@ -98,7 +99,6 @@ fn our_walk(input: &Input, len: usize, at: u64, end: Option<u64>, calls: &mut u6
     }
 }
 
-/// Where the Rust's reader stands after a walk that found no header at the end: at the place where it looked.
 fn hex(s: &[u8]) -> String {
     let shown: String = s.iter().take(64).map(|b| format!("{b:02x}")).collect();
     format!("{shown} ({} bytes)", s.len())
@@ -257,4 +257,50 @@ pub fn run(tally: &mut Tally) {
     exhaustive(tally);
     trees(tally);
     long(tally);
+}
+
+/// A sample of the Rust's answers: the boundary headers, whole and cut, and trees. Entries 1 to 4 are the header, the child and the two bodies.
+pub fn vectors(out: &mut Vectors) {
+    let mut random = Random::new(4);
+    for _ in 0..120 {
+        let s = tree(&mut random, 2);
+        let len = s.len() as u64;
+        sample(out, &s, random.below(len + 2), &[Some(len)], random.below(30));
+    }
+    let large = [0, 15, 16, 17, 24, 1 << 32, 67_108_880, 67_108_881, u64::MAX - 8, u64::MAX - 7, u64::MAX].map(|n| extended(n, b"wxyz"));
+    let heads = [0, 1, 2, 7, 8, 9, 16, 67_108_872, 67_108_873, u32::MAX].map(|n| sized(n, b"abcd"));
+    for head in heads.iter().chain(&large) {
+        for at in [0, 8] {
+            let mut s = sized(8, b"free")[..at].to_vec();
+            s.extend(head);
+            s.extend([1, 2, 3]);
+            for len in [0, 1, 7, 8, 9, 15, 16, 17, s.len() - 1, s.len()] {
+                if len <= s.len() {
+                    sample(out, &s[..len], at as u64, &[None, Some(len as u64), Some(at as u64 + 8)], 2);
+                }
+            }
+        }
+    }
+}
+
+fn sample(out: &mut Vectors, s: &[u8], at: u64, ends: &[Option<u64>], envelope: u64) {
+    if s.len() > 60 {
+        return;
+    }
+    out.add(1, &[at], s, header(s, at).map(|n| n.to_vec()));
+    out.add(3, &[at], s, payload(s, at, |r, h| atom::read_payload(r, h)).map(|n| n.to_vec()));
+    out.add(4, &[at, envelope], s, payload(s, at, |r, h| atom::read_payload_bounded(r, h, envelope)).map(|n| n.to_vec()));
+    for &end in ends {
+        let (seen, told) = walk(s, at, end);
+        // The next place is where the second child stands, or where the walk ended.
+        let answer = match (seen.as_slice(), told) {
+            ([], Answer::Given(_)) => Answer::None,
+            ([], Answer::Refused(n)) => Answer::Refused(n),
+            ([only], Answer::Given(place)) => Answer::Given([&[place], &only[..]].concat()),
+            ([first, second, ..], _) => Answer::Given([&[second[4] - second[3]], &first[..]].concat()),
+            _ => continue,
+        };
+        let (known, limit) = end.map_or((0, 0), |end| (1, end));
+        out.add(2, &[at, known, limit], s, answer);
+    }
 }

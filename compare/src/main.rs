@@ -1,12 +1,23 @@
 //! Runs the proved library beside the Rust that it is a port of, and compares every answer.
-//! `compare` alone runs everything; `compare vectors` prints a sample of the Rust's answers (see docs/VECTORS.md).
+//! `compare` alone runs everything; `compare vectors NAME` prints a sample of the Rust's answers (docs/VECTORS.md).
 
 mod atoms;
 mod ffi;
 mod random;
 mod tally;
+mod vectors;
 
 pub fn main() {
+    let words: Vec<String> = std::env::args().skip(1).collect();
+    if words.first().is_some_and(|w| w == "vectors") {
+        let mut vectors = vectors::Vectors::new();
+        match words.get(1).map(String::as_str) {
+            Some("atoms") => atoms::vectors(&mut vectors),
+            _ => panic!("vectors of what?"),
+        }
+        vectors.print();
+        return;
+    }
     let mut tally = tally::Tally::new();
     atoms::run(&mut tally);
     tally.report();

@@ -1,0 +1,2 @@
+pub mod Sbgp
+pub mod Layout

@@ -1,0 +1,106 @@
+// The sample-to-group atom sbgp (document 01, part 3).
+ghost use mathlib.Core.Path.{_≡_};
+ghost use mathlib.Core.List.{_++_};
+ghost use Prim.Native.Nat.{_+_, _*_, _≤_};
+ghost use lib.ListN.{length, drop};
+ghost use Rattle.rows.specs.Row.{recordsIn, flat};
+ghost use Rattle.rows.specs.Found.{Parses};
+ghost use Rattle.sbgp.specs.Sbgp.{readRows, parseSbgp};
+ghost use Rattle.sbgp.specs.Layout.{Lays, Counted};
+use rows::ParsedTable;
+use rows::SampleToGroup;
+
+const INPUT_LIMIT: usize = 67108864;
+
+// Where a payload's rows stand: their first place and how many they are.
+pub struct SbgpLayout {
+    pub grouping_type: u32,
+    pub grouping_type_parameter: u32,
+    pub first: usize,
+    pub entry_count: u32,
+}
+
+pub enum Layout {
+    Layout(SbgpLayout),
+    Refused(u32),
+}
+
+// The layout from the place of the row count on.
+fn layout_from(s: &[u8], parameter: u32, at: usize) -> Layout
+    requires { ⌜ Counted (now s) parameter at ⌝ }
+    ensures { λ r. ⌜ Lays (now (s .entry)) r ⌝ }
+{
+    if s.len() < at + 4 {
+        return Layout::Refused(22);
+    }
+    let entry_count = fields::read_u32(s, at);
+    let first = at + 4;
+    if s.len() < first + 8 * (entry_count as usize) {
+        return Layout::Refused(23);
+    }
+    Layout::Layout(SbgpLayout {
+        grouping_type: fields::read_u32(s, 4),
+        grouping_type_parameter: parameter,
+        first,
+        entry_count,
+    })
+}
+
+// Reads a payload up to its rows, and finds whether they are all there.
+pub fn sbgp_layout(s: &[u8]) -> Layout
+    ensures { λ r. ⌜ Lays (now (s .entry)) r ⌝ }
+{
+    if INPUT_LIMIT < s.len() {
+        return Layout::Refused(55);
+    }
+    if s.len() < 8 {
+        return Layout::Refused(20);
+    }
+    match fields::read_u8(s, 0) {
+        1 => {
+            if s.len() < 12 {
+                return Layout::Refused(21);
+            }
+            layout_from(s, fields::read_u32(s, 8), 12)
+        }
+        _ => layout_from(s, 0, 8),
+    }
+}
+
+// Writes the rows from place `first` of the payload in front of the lent run.
+fn fill(s: &[u8], first: usize, count: usize, rows: &mut [u32])
+    requires { ⌜ (first + 8 * count ≤ length (now s)) × (2 * count ≤ length (now rows)) ⌝ }
+    ensures { λ _. ⌜ now (rows .exit) ≡ flat (readRows count (now (s .entry)) first) ++ drop (2 * count) (now (rows .entry)) ⌝ }
+{
+    let mut k: usize = 0;
+    while k < count {
+        let at = first + 8 * k;
+        let sample_count = fields::read_u32(s, at);
+        let index = fields::read_u32(s, at + 4);
+        rows[2 * k] = sample_count;
+        rows[2 * k + 1] = index;
+        k = k + 1;
+    }
+}
+
+// Reads an sbgp payload and writes its rows in front of the lent run. Nothing is written on refusal.
+pub fn parse_sbgp(s: &[u8], rows: &mut [u32]) -> ParsedTable
+    ensures { λ r. ⌜ Parses (parseSbgp (now (s .entry)) (recordsIn (now (rows .entry)))) (now (rows .entry)) (now (rows .exit)) r ⌝ }
+{
+    match sbgp_layout(s) {
+        Layout::Layout(l) => {
+            let first = l.first;
+            let count = l.entry_count as usize;
+            if rows.len() / 2 < count {
+                return ParsedTable::Refused(29);
+            }
+            fill(s, first, count, rows);
+            ParsedTable::Table(SampleToGroup {
+                grouping_type: l.grouping_type,
+                grouping_type_parameter: l.grouping_type_parameter,
+                entry_count: count,
+            })
+        }
+        Layout::Refused(n) => ParsedTable::Refused(n),
+    }
+}
