@@ -27,4 +27,16 @@ uint32_t film_read_payload(const uint8_t *s, size_t len, uint64_t at, uint64_t o
 /* The same where the body may have at most `max_remaining` bytes. */
 uint32_t film_read_payload_bounded(const uint8_t *s, size_t len, uint64_t at, uint64_t max_remaining, uint64_t out[2]);
 
+/* Sample tables. `rows` is a run of `rows_len` numbers: pairs of a sample count and a description index; a last number without a partner is
+ * no record. With FILM_OK the rows stand in front of the run and the numbers behind them stay; otherwise the whole run stays. */
+
+/* The rows of an sbgp payload, as they are. out: grouping type, parameter (0 if absent), row count. */
+uint32_t film_parse_sbgp(const uint8_t *s, size_t len, uint32_t *rows, size_t rows_len, uint64_t out[3]);
+
+/* The description index (counted from 1, 0: none) of a sample (counted from 0). out: the index; 0 past the last row. */
+uint32_t film_group_index_for_sample(const uint32_t *rows, size_t rows_len, uint32_t sample, uint64_t out[1]);
+
+/* The number of samples that the rows cover. out: the sum. */
+uint32_t film_covered_samples(const uint32_t *rows, size_t rows_len, uint64_t out[1]);
+
 #endif

@@ -24,6 +24,9 @@ unsafe extern "C" {
     fn film_next_child(s: *const u8, len: usize, at: u64, known: u32, end: u64, out: *mut u64) -> u32;
     fn film_read_payload(s: *const u8, len: usize, at: u64, out: *mut u64) -> u32;
     fn film_read_payload_bounded(s: *const u8, len: usize, at: u64, max_remaining: u64, out: *mut u64) -> u32;
+    fn film_parse_sbgp(s: *const u8, len: usize, rows: *mut u32, rows_len: usize, out: *mut u64) -> u32;
+    fn film_group_index_for_sample(rows: *const u32, rows_len: usize, sample: u32, out: *mut u64) -> u32;
+    fn film_covered_samples(rows: *const u32, rows_len: usize, out: *mut u64) -> u32;
 }
 
 const OK: u32 = 0;
@@ -91,4 +94,40 @@ pub fn read_payload(s: &Input, len: usize, at: u64) -> Answer<[u64; 2]> {
 
 pub fn read_payload_bounded(s: &Input, len: usize, at: u64, max_remaining: u64) -> Answer<[u64; 2]> {
     with_out(|out| unsafe { film_read_payload_bounded(s.part(len), len, at, max_remaining, out) })
+}
+
+/// A table as its reader hands it out: type, parameter and rows (count, index).
+pub type Table = (u32, u32, Vec<(u32, u32)>);
+
+const ROW_GUARD: u32 = 0x7e57_ab1e;
+
+/// Calls a table's reader with a run of `numbers` numbers between guards. Only the rows in front of the run are written.
+fn with_rows(s: &Input, len: usize, numbers: usize, call: unsafe extern "C" fn(*const u8, usize, *mut u32, usize, *mut u64) -> u32) -> Answer<Table> {
+    let mut framed = vec![ROW_GUARD; numbers + 2 * GUARDS];
+    let run = framed[GUARDS..].as_mut_ptr();
+    let told = with_out::<3>(|out| unsafe { call(s.part(len), len, run, numbers, out) });
+    let rows = match &told {
+        Answer::Given([_, _, rows]) => 2 * *rows as usize,
+        _ => 0,
+    };
+    assert!(rows <= numbers, "more rows than records");
+    let (front, back) = (&framed[..GUARDS], &framed[GUARDS + rows..]);
+    assert!(front.iter().chain(back).all(|&g| g == ROW_GUARD), "a record behind the rows was written");
+    let written = framed[GUARDS..GUARDS + rows].chunks_exact(2).map(|p| (p[0], p[1])).collect();
+    told.map(|[kind, parameter, _]| (kind as u32, parameter as u32, written))
+}
+
+pub fn parse_sbgp(s: &Input, len: usize, numbers: usize) -> Answer<Table> {
+    with_rows(s, len, numbers, film_parse_sbgp)
+}
+
+pub fn group_index_for_sample(rows: &[u32], sample: u32) -> Answer<u32> {
+    let kept = rows.to_vec();
+    let told = with_out::<1>(|out| unsafe { film_group_index_for_sample(rows.as_ptr(), rows.len(), sample, out) });
+    assert!(rows == kept, "rows were written");
+    told.map(|[index]| index as u32)
+}
+
+pub fn covered_samples(rows: &[u32]) -> Answer<u64> {
+    with_out::<1>(|out| unsafe { film_covered_samples(rows.as_ptr(), rows.len(), out) }).map(|[sum]| sum)
 }

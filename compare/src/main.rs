@@ -4,6 +4,8 @@
 mod atoms;
 mod ffi;
 mod random;
+mod sbgp;
+mod tables;
 mod tally;
 mod vectors;
 
@@ -20,5 +22,6 @@ pub fn main() {
     }
     let mut tally = tally::Tally::new();
     atoms::run(&mut tally);
+    sbgp::run(&mut tally);
     tally.report();
 }

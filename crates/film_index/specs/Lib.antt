@@ -1,2 +1,3 @@
 pub mod Status
 pub mod Atoms
+pub mod Tables

@@ -1,0 +1,63 @@
+//! Part 3 of document 01.
+
+use super::ffi;
+use super::random::Random;
+use super::tables;
+use super::tally::Tally;
+use crate::sample_groups;
+
+fn payload(random: &mut Random, version: u8, count: u32, rows: &[(u32, u32)]) -> Vec<u8> {
+    let mut s = vec![version, random.next() as u8, 0, 1];
+    s.extend(b"roll");
+    if version == 1 {
+        s.extend((random.next() as u32).to_be_bytes());
+    }
+    s.extend(count.to_be_bytes());
+    for (n, index) in rows {
+        s.extend(n.to_be_bytes());
+        s.extend(index.to_be_bytes());
+    }
+    s
+}
+
+fn compare(tally: &mut Tally, random: &mut Random, s: &[u8]) {
+    tables::compare(tally, random, "parse_sbgp", s, ffi::parse_sbgp, sample_groups::parse_sbgp);
+}
+
+pub fn run(tally: &mut Tally) {
+    let mut random = Random::new(5);
+    // Every version with small tables, every truncation, some bytes more, and counts around the bytes that are there.
+    for version in [0, 1, 2, 3, 255] {
+        for rows in 0..5u32 {
+            let pairs: Vec<(u32, u32)> = (0..rows).map(|_| (random.below(4) as u32, random.below(3) as u32)).collect();
+            for count in [rows, rows + 1, rows.saturating_sub(1), 0x2000_0000, 0xffff_ffff] {
+                let mut s = payload(&mut random, version, count, &pairs);
+                s.extend([1, 2, 3]);
+                for len in 0..=s.len() {
+                    compare(tally, &mut random, &s[..len]);
+                }
+            }
+        }
+    }
+    // Random tables with large counts, and damaged ones.
+    const COUNTS: [u32; 8] = [0, 1, 2, 7, 1000, 0x7fff_ffff, 0xffff_fffe, 0xffff_ffff];
+    for _ in 0..60_000 {
+        let rows: Vec<(u32, u32)> = (0..random.below(9)).map(|_| (random.pick(&COUNTS), random.pick(&COUNTS))).collect();
+        let version = random.below(3) as u8;
+        let mut s = payload(&mut random, version, rows.len() as u32, &rows);
+        if random.one_in(3) {
+            let k = random.below(s.len() as u64) as usize;
+            s[k] = random.next() as u8;
+        }
+        if random.one_in(4) {
+            s.truncate(random.below(s.len() as u64) as usize);
+        }
+        compare(tally, &mut random, &s);
+    }
+    // 1 MiB.
+    for _ in 0..6 {
+        let rows: Vec<(u32, u32)> = (0..131_000).map(|_| (random.below(9) as u32, random.next() as u32)).collect();
+        let s = payload(&mut random, 1, rows.len() as u32, &rows);
+        compare(tally, &mut random, &s);
+    }
+}

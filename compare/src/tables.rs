@@ -1,0 +1,82 @@
+//! What the two sample tables share: the Rust's answer, lookups over the rows, and refusals for want of records.
+
+use super::ffi::{self, Answer, Input, Table};
+use super::random::Random;
+use super::tally::Tally;
+use crate::sample_groups::SampleToGroup;
+use crate::standalone::{Error, Result};
+
+/// The number of an error: document 01's, by the Rust's message.
+pub fn number(error: &Error) -> u32 {
+    let Error::InvalidData(text) = error else { panic!("an error of another kind: {error}") };
+    let known = [
+        ("header < 8 bytes", 20),
+        ("missing grouping_type_parameter", 21),
+        ("missing entry_count", 22),
+        ("missing pattern_count", 22),
+        ("truncated entries", 23),
+        ("truncated pattern_length", 24),
+        ("truncated sample_count", 25),
+        ("pattern_length is zero", 26),
+        ("truncated description index", 27),
+    ];
+    known.iter().find(|(part, _)| text.contains(part)).unwrap_or_else(|| panic!("an unknown message: {text}")).1
+}
+
+pub fn theirs(told: &Result<SampleToGroup>) -> Answer<Table> {
+    match told {
+        Ok(t) => {
+            let rows = t.entries.iter().map(|e| (e.sample_count, e.group_description_index)).collect();
+            Answer::Given((u32::from_be_bytes(t.grouping_type), t.grouping_type_parameter, rows))
+        }
+        Err(e) => Answer::Refused(number(e)),
+    }
+}
+
+/// One payload: the table with records enough (exactly enough, some more, an odd number more), with one too few, and lookups over its rows.
+pub fn compare(
+    tally: &mut Tally,
+    random: &mut Random,
+    entry: &'static str,
+    s: &[u8],
+    ours: impl Fn(&Input, usize, usize) -> Answer<Table>,
+    reference: impl Fn(&[u8]) -> Result<SampleToGroup>,
+) {
+    let input = Input::new(s);
+    let told = reference(s);
+    let expected = theirs(&told);
+    let rows = told.as_ref().map_or(3, |t| t.entries.len());
+    let shown = |room: usize| move || format!("{:02x?} with {room} numbers", &s[..s.len().min(80)]);
+    for numbers in [2 * rows, 2 * rows + 1 + random.below(5) as usize] {
+        tally.same(entry, ours(&input, s.len(), numbers), expected.clone(), &shown(numbers));
+    }
+    if let Ok(table) = &told {
+        if rows > 0 {
+            // 29 has no counterpart in the Rust: its rows say that one record is missing.
+            let fewer = random.below(2 * rows as u64) as usize;
+            for numbers in [2 * rows - 1, fewer] {
+                tally.same(entry, ours(&input, s.len(), numbers), Answer::Refused(29), &shown(numbers));
+            }
+        }
+        lookups(tally, random, table);
+    }
+    input.check();
+}
+
+/// Every sample of a short table and some of a long one, around the total too.
+fn lookups(tally: &mut Tally, random: &mut Random, table: &SampleToGroup) {
+    let mut rows: Vec<u32> = table.entries.iter().flat_map(|e| [e.sample_count, e.group_description_index]).collect();
+    if random.one_in(4) {
+        rows.push(random.next() as u32);
+    }
+    let covered = table.covered_samples();
+    tally.same("covered_samples", ffi::covered_samples(&rows), Answer::Given(covered), &|| format!("{rows:?}"));
+    let total = covered.min(u32::MAX as u64) as u32;
+    let near = [0, 1, total.saturating_sub(1), total, total.saturating_add(1), u32::MAX];
+    let some = (0..6).map(|_| random.below(total as u64 + 2) as u32);
+    let samples: Vec<u32> = if total < 12 { (0..=total + 1).collect() } else { near.into_iter().chain(some).collect() };
+    for k in samples {
+        let theirs = Answer::Given(table.group_index_for_sample(k));
+        tally.same("group_index_for_sample", ffi::group_index_for_sample(&rows, k), theirs, &|| format!("sample {k} of {rows:?}"));
+    }
+}
