@@ -33,6 +33,9 @@ uint32_t film_read_payload_bounded(const uint8_t *s, size_t len, uint64_t at, ui
 /* The rows of an sbgp payload, as they are. out: grouping type, parameter (0 if absent), row count. */
 uint32_t film_parse_sbgp(const uint8_t *s, size_t len, uint32_t *rows, size_t rows_len, uint64_t out[3]);
 
+/* The rows of a csgp payload: its patterns replayed over their samples, equal neighbours joined. out as for sbgp. */
+uint32_t film_parse_csgp(const uint8_t *s, size_t len, uint32_t *rows, size_t rows_len, uint64_t out[3]);
+
 /* The description index (counted from 1, 0: none) of a sample (counted from 0). out: the index; 0 past the last row. */
 uint32_t film_group_index_for_sample(const uint32_t *rows, size_t rows_len, uint32_t sample, uint64_t out[1]);
 

@@ -25,6 +25,7 @@ unsafe extern "C" {
     fn film_read_payload(s: *const u8, len: usize, at: u64, out: *mut u64) -> u32;
     fn film_read_payload_bounded(s: *const u8, len: usize, at: u64, max_remaining: u64, out: *mut u64) -> u32;
     fn film_parse_sbgp(s: *const u8, len: usize, rows: *mut u32, rows_len: usize, out: *mut u64) -> u32;
+    fn film_parse_csgp(s: *const u8, len: usize, rows: *mut u32, rows_len: usize, out: *mut u64) -> u32;
     fn film_group_index_for_sample(rows: *const u32, rows_len: usize, sample: u32, out: *mut u64) -> u32;
     fn film_covered_samples(rows: *const u32, rows_len: usize, out: *mut u64) -> u32;
 }
@@ -119,6 +120,10 @@ fn with_rows(s: &Input, len: usize, numbers: usize, call: unsafe extern "C" fn(*
 
 pub fn parse_sbgp(s: &Input, len: usize, numbers: usize) -> Answer<Table> {
     with_rows(s, len, numbers, film_parse_sbgp)
+}
+
+pub fn parse_csgp(s: &Input, len: usize, numbers: usize) -> Answer<Table> {
+    with_rows(s, len, numbers, film_parse_csgp)
 }
 
 pub fn group_index_for_sample(rows: &[u32], sample: u32) -> Answer<u32> {

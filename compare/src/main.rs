@@ -2,6 +2,7 @@
 //! `compare` alone runs everything; `compare vectors NAME` prints a sample of the Rust's answers (docs/VECTORS.md).
 
 mod atoms;
+mod csgp;
 mod ffi;
 mod random;
 mod sbgp;
@@ -15,6 +16,11 @@ pub fn main() {
         let mut vectors = vectors::Vectors::new();
         match words.get(1).map(String::as_str) {
             Some("atoms") => atoms::vectors(&mut vectors),
+            Some("tables") => {
+                sbgp::vectors(&mut vectors);
+                csgp::vectors(&mut vectors);
+            }
+            Some("document") => csgp::document(&mut vectors),
             _ => panic!("vectors of what?"),
         }
         vectors.print();
@@ -23,5 +29,6 @@ pub fn main() {
     let mut tally = tally::Tally::new();
     atoms::run(&mut tally);
     sbgp::run(&mut tally);
+    csgp::run(&mut tally);
     tally.report();
 }

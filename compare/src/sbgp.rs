@@ -4,6 +4,7 @@ use super::ffi;
 use super::random::Random;
 use super::tables;
 use super::tally::Tally;
+use super::vectors::Vectors;
 use crate::sample_groups;
 
 fn payload(random: &mut Random, version: u8, count: u32, rows: &[(u32, u32)]) -> Vec<u8> {
@@ -59,5 +60,21 @@ pub fn run(tally: &mut Tally) {
         let rows: Vec<(u32, u32)> = (0..131_000).map(|_| (random.below(9) as u32, random.next() as u32)).collect();
         let s = payload(&mut random, 1, rows.len() as u32, &rows);
         compare(tally, &mut random, &s);
+    }
+}
+
+pub fn vectors(out: &mut Vectors) {
+    let mut random = Random::new(7);
+    let seams = payload(&mut random, 0, 3, &[(3, 1), (0, 9), (2, 1)]);
+    tables::sample(out, 5, &seams, 2, sample_groups::parse_sbgp(&seams));
+    for _ in 0..120 {
+        let rows: Vec<(u32, u32)> = (0..random.below(5)).map(|_| (random.pick(&[0, 1, 5, u32::MAX]), random.below(4) as u32)).collect();
+        let version = random.below(3) as u8;
+        let mut s = payload(&mut random, version, rows.len() as u32, &rows);
+        if random.one_in(3) {
+            s.truncate(random.below(s.len() as u64) as usize);
+        }
+        let spare = random.below(4) as usize;
+        tables::sample(out, 5, &s, spare, sample_groups::parse_sbgp(&s));
     }
 }

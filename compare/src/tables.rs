@@ -3,6 +3,7 @@
 use super::ffi::{self, Answer, Input, Table};
 use super::random::Random;
 use super::tally::Tally;
+use super::vectors::Vectors;
 use crate::sample_groups::SampleToGroup;
 use crate::standalone::{Error, Result};
 
@@ -43,6 +44,7 @@ pub fn compare(
     reference: impl Fn(&[u8]) -> Result<SampleToGroup>,
 ) {
     let input = Input::new(s);
+    tally.count(if entry == "parse_sbgp" { "payloads of sbgp" } else { "payloads of csgp" }, 1);
     let told = reference(s);
     let expected = theirs(&told);
     let rows = told.as_ref().map_or(3, |t| t.entries.len());
@@ -78,5 +80,27 @@ fn lookups(tally: &mut Tally, random: &mut Random, table: &SampleToGroup) {
     for k in samples {
         let theirs = Answer::Given(table.group_index_for_sample(k));
         tally.same("group_index_for_sample", ffi::group_index_for_sample(&rows, k), theirs, &|| format!("sample {k} of {rows:?}"));
+    }
+}
+
+/// The Rust's table for a payload as a stored vector, with `spare` numbers more than its rows need, and lookups around its seams.
+pub fn sample(out: &mut Vectors, entry: u8, s: &[u8], spare: usize, told: Result<SampleToGroup>) {
+    let rows = told.as_ref().map_or(0, |t| t.entries.len());
+    if s.len() > 60 || rows > 20 {
+        return;
+    }
+    let answer = theirs(&told).map(|(kind, parameter, rows)| {
+        let mut numbers = vec![kind as u64, parameter as u64, rows.len() as u64];
+        numbers.extend(rows.iter().flat_map(|&(n, i)| [n as u64, i as u64]));
+        numbers
+    });
+    out.add(entry, &[(2 * rows + spare) as u64], s, answer);
+    let Ok(table) = told else { return };
+    let run: Vec<u8> = table.entries.iter().flat_map(|e| [e.sample_count, e.group_description_index]).flat_map(u32::to_be_bytes).collect();
+    let covered = table.covered_samples();
+    out.add(8, &[], &run, Answer::Given(vec![covered]));
+    for k in [0, covered / 2, covered.saturating_sub(1), covered] {
+        let k = k.min(u32::MAX as u64) as u32;
+        out.add(7, &[k as u64], &run, Answer::Given(vec![table.group_index_for_sample(k) as u64]));
     }
 }

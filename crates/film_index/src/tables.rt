@@ -3,6 +3,7 @@ ghost use mathlib.Core.Path.{_≡_};
 ghost use Rattle.rows.specs.Row.{recordsIn, lookup, total};
 ghost use Rattle.rows.specs.Found.{foundOf, coveredOf, parsedOf};
 ghost use Rattle.sbgp.specs.Sbgp.{parseSbgp};
+ghost use Rattle.csgp.specs.Csgp.{parseCsgp};
 ghost use Rattle.film_index.specs.Status.{Returns};
 ghost use Rattle.film_index.specs.Tables.{Fills, headNumbers, oneNumber};
 
@@ -34,6 +35,16 @@ pub extern "C" fn film_parse_sbgp(s: &[u8], rows: &mut [u32], out: &mut [u64; 3]
     }
 {
     put_head(sbgp::parse_sbgp(s, rows), out)
+}
+
+// The same for a csgp payload.
+#[no_mangle]
+pub extern "C" fn film_parse_csgp(s: &[u8], rows: &mut [u32], out: &mut [u64; 3]) -> u32
+    ensures {
+        λ r. ⌜ Fills (parseCsgp (now (s .entry)) (recordsIn (now (rows .entry)))) (now (rows .entry)) (now (rows .exit)) (now (out .entry)) (now (out .exit)) r ⌝
+    }
+{
+    put_head(csgp::parse_csgp(s, rows), out)
 }
 
 // out: the index of the row that covers the sample (counted from 0), 0 past the end.

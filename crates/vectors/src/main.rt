@@ -1,6 +1,9 @@
 // Replays the stored answers of the Rust (data/; docs/VECTORS.md says how they were made) and tells how many differ.
+mod atoms;
 mod hex;
+mod numbers;
 mod record;
+mod tables;
 
 ghost use Prim.Native.Nat.{_≤_};
 ghost use lib.ListN.{length};
@@ -57,4 +60,6 @@ fn replay(name: &[u8]) {
 
 fn main() {
     replay(b"atoms");
+    replay(b"tables");
+    replay(b"document");
 }

@@ -3,10 +3,10 @@ use native.Mathlib.Omega.{arith}
 use Prim.Native.Nat.{_+_, _-_, _*_, _/_, _≤_}
 use lib.ListN.{length}
 use mathlib.Core.Path.{_≡_}
-use Rattle.vectors.proofs.record.same_numbers.Statement.{statement}
-use Rattle.vectors.proofs.record.same_numbers.Tie as tie
-use Rattle.vectors.proofs.record.same_numbers.Reads as reads
-use Rattle.vectors.proofs.record.same_numbers.Lts as lts
+use Rattle.vectors.proofs.numbers.same_numbers.Statement.{statement}
+use Rattle.vectors.proofs.numbers.same_numbers.Tie as tie
+use Rattle.vectors.proofs.numbers.same_numbers.Reads as reads
+use Rattle.vectors.proofs.numbers.same_numbers.Lts as lts
 use Rattle.fields.proofs.read_u64.Reads as read-u64-reads
 
 abbrev Inv-loop : tie.InvT-loop

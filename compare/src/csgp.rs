@@ -1,0 +1,233 @@
+//! Part 4 of document 01.
+
+use super::ffi::{self, Answer};
+use super::random::Random;
+use super::tables;
+use super::tally::Tally;
+use super::vectors::Vectors;
+use crate::sample_groups;
+
+const WIDTHS: [u32; 4] = [4, 8, 16, 32];
+
+/// Numbers of any width in bits, high bit first.
+struct Bits {
+    bytes: Vec<u8>,
+    used: u32,
+}
+
+impl Bits {
+    fn put(&mut self, width: u32, value: u32) {
+        for k in (0..width).rev() {
+            if self.used % 8 == 0 {
+                self.bytes.push(0);
+            }
+            *self.bytes.last_mut().unwrap() |= ((value >> k & 1) as u8) << (7 - self.used % 8);
+            self.used += 1;
+        }
+    }
+}
+
+/// The codes of index, count and pattern length, and whether a parameter is there.
+#[derive(Clone, Copy)]
+struct Shape {
+    index: usize,
+    count: usize,
+    length: usize,
+    parameter: bool,
+}
+
+impl Shape {
+    fn all() -> impl Iterator<Item = Shape> {
+        (0..128).map(|k| Shape { index: k % 4, count: k / 4 % 4, length: k / 16 % 4, parameter: k / 64 == 1 })
+    }
+}
+
+/// A pattern: its declared length, its sample count and its indices.
+type Pattern = (u32, u32, Vec<u32>);
+
+/// A payload, or none where a number does not fit its field.
+fn payload(random: &mut Random, shape: Shape, declared: u32, patterns: &[Pattern]) -> Option<Vec<u8>> {
+    let [iw, cw, lw] = [shape.index, shape.count, shape.length].map(|c| WIDTHS[c]);
+    let fits = |w: u32, v: u32| w == 32 || v < 1 << w;
+    let whole = patterns.iter().all(|(l, n, is)| fits(lw, *l) && fits(cw, *n) && is.iter().all(|&i| fits(iw, i)));
+    if !whole {
+        return None;
+    }
+    let flags = (shape.index | shape.count << 2 | shape.length << 4 | (shape.parameter as usize) << 6) as u8;
+    let mut s = vec![random.next() as u8, random.next() as u8, random.next() as u8, flags | random.pick(&[0, 128])];
+    s.extend(b"rap ");
+    if shape.parameter {
+        s.extend((random.next() as u32).to_be_bytes());
+    }
+    s.extend(declared.to_be_bytes());
+    let mut bits = Bits { bytes: Vec::new(), used: 0 };
+    for (length, count, _) in patterns {
+        bits.put(lw, *length);
+        bits.put(cw, *count);
+    }
+    for index in patterns.iter().flat_map(|(_, _, is)| is) {
+        bits.put(iw, *index);
+    }
+    s.extend(bits.bytes);
+    Some(s)
+}
+
+/// Document 01's domain: each pattern length and the sum of the counts at most 1,000,000. The pairs are read as far as they go.
+fn in_domain(s: &[u8]) -> bool {
+    if s.len() < 12 {
+        return true;
+    }
+    let flags = s[3] as usize;
+    let (lw, cw) = (WIDTHS[flags >> 4 & 3] as usize, WIDTHS[flags >> 2 & 3] as usize);
+    let at = if flags >> 6 & 1 == 1 { 12 } else { 8 };
+    if s.len() < at + 4 {
+        return true;
+    }
+    let declared = u32::from_be_bytes(s[at..at + 4].try_into().unwrap()) as u64;
+    let bit = |p: usize| (s[p / 8] >> (7 - p % 8) & 1) as u64;
+    let field = |p: usize, w: usize| (p..p + w).fold(0, |v, k| v << 1 | bit(k));
+    let mut place = 8 * (at + 4);
+    let mut sum = 0;
+    for _ in 0..declared {
+        if place + lw + cw > 8 * s.len() {
+            break;
+        }
+        let (length, count) = (field(place, lw), field(place + lw, cw));
+        sum += count;
+        if length > 1_000_000 || sum > 1_000_000 {
+            return false;
+        }
+        place += lw + cw;
+    }
+    true
+}
+
+fn compare(tally: &mut Tally, random: &mut Random, s: &[u8]) {
+    if in_domain(s) {
+        tables::compare(tally, random, "parse_csgp", s, ffi::parse_csgp, sample_groups::parse_csgp);
+    }
+}
+
+/// Lengths and counts around every wrap, in every combination of widths; every truncation, so that the end falls into each field.
+fn wraps(tally: &mut Tally, random: &mut Random) {
+    for shape in Shape::all() {
+        for length in 0..=5u32 {
+            for count in (0..=2 * length + 2).chain([15]) {
+                let indices: Vec<u32> = (0..length).map(|_| random.below(3) as u32).collect();
+                let second: Vec<u32> = (0..1 + random.below(3) as u32).map(|_| random.below(3) as u32).collect();
+                let patterns = [(length, count, indices), (second.len() as u32, random.below(9) as u32, second)];
+                for declared in [2, 1, 3, 0x4000_0000] {
+                    let Some(s) = payload(random, shape, declared, &patterns) else { continue };
+                    if declared != 2 {
+                        compare(tally, random, &s);
+                        continue;
+                    }
+                    for len in 0..=s.len() {
+                        compare(tally, random, &s[..len]);
+                    }
+                }
+            }
+        }
+    }
+}
+
+/// Random patterns, joined across their seams, some damaged.
+fn mixed(tally: &mut Tally, random: &mut Random) {
+    for _ in 0..1_000_000 {
+        let shape = Shape { index: random.below(4) as usize, count: random.below(4) as usize, length: random.below(4) as usize, parameter: random.one_in(3) };
+        let patterns: Vec<Pattern> = (0..random.below(6))
+            .map(|_| {
+                let length = random.below(7) as u32;
+                let kinds = 1 + random.below(3);
+                let indices: Vec<u32> = (0..length).map(|_| random.below(kinds) as u32).collect();
+                (length, random.below(16) as u32, indices)
+            })
+            .collect();
+        let Some(mut s) = payload(random, shape, patterns.len() as u32, &patterns) else { continue };
+        if random.one_in(4) {
+            let k = random.below(s.len() as u64) as usize;
+            s[k] = random.next() as u8;
+        }
+        if random.one_in(6) {
+            s.truncate(random.below(s.len() as u64) as usize);
+        }
+        compare(tally, random, &s);
+    }
+}
+
+/// Sums up to 1,000,000, large indices, and inputs up to 1 MiB.
+fn large(tally: &mut Tally, random: &mut Random) {
+    for round in 0..60 {
+        let uniform = round % 3 == 0;
+        let length = random.pick(&[1, 2, 3, 1000, 65_535, 200_000]);
+        let kinds = if uniform { 1 } else { random.pick(&[2, 5, 0xffff_ffff]) };
+        let base = random.next() as u32 / 2;
+        let indices: Vec<u32> = (0..length).map(|_| base.wrapping_add(random.below(kinds) as u32)).collect();
+        let count = random.pick(&[1, 999_999, 1_000_000, length, length + 1, 2 * length - 1]).min(1_000_000);
+        let shape = Shape { index: 3, count: 3, length: 3, parameter: false };
+        let s = payload(random, shape, 1, &[(length, count, indices)]).unwrap();
+        compare(tally, random, &s);
+    }
+}
+
+pub fn run(tally: &mut Tally) {
+    let mut random = Random::new(6);
+    wraps(tally, &mut random);
+    mixed(tally, &mut random);
+    large(tally, &mut random);
+}
+
+const WIDE: Shape = Shape { index: 1, count: 3, length: 1, parameter: false };
+
+pub fn vectors(out: &mut Vectors) {
+    let mut random = Random::new(8);
+    let seams: [&[Pattern]; 4] = [
+        &[(3, 7, vec![1, 2, 2])],
+        &[(1, 2, vec![5]), (2, 3, vec![5, 6])],
+        &[(1, 0, vec![7]), (1, 1, vec![8])],
+        &[(0, 1, vec![])],
+    ];
+    for patterns in seams {
+        let s = payload(&mut random, WIDE, patterns.len() as u32, patterns).unwrap();
+        for len in [s.len(), s.len() - 1] {
+            tables::sample(out, 6, &s[..len], 0, sample_groups::parse_csgp(&s[..len]));
+        }
+    }
+    for shape in Shape::all() {
+        for _ in 0..3 {
+            let patterns: Vec<Pattern> = (0..1 + random.below(2))
+                .map(|_| {
+                    let length = random.below(4) as u32;
+                    (length, random.below(8) as u32, (0..length).map(|_| random.below(2) as u32).collect())
+                })
+                .collect();
+            let Some(mut s) = payload(&mut random, shape, patterns.len() as u32, &patterns) else { continue };
+            if random.one_in(3) {
+                s.truncate(random.below(s.len() as u64) as usize);
+            }
+            let spare = random.below(3) as usize;
+            tables::sample(out, 6, &s, spare, sample_groups::parse_csgp(&s));
+        }
+    }
+}
+
+/// Answers that document 01 gives and the Rust cannot: a run too long for it, and want of records.
+pub fn document(out: &mut Vectors) {
+    let mut random = Random::new(9);
+    let mut add = |lent: u64, patterns: &[Pattern], answer: Answer<Vec<u64>>| {
+        let s = payload(&mut random, WIDE, patterns.len() as u32, patterns).unwrap();
+        out.add(6, &[lent], &s, answer);
+    };
+    let rap = u32::from_be_bytes(*b"rap ") as u64;
+    let most = u32::MAX;
+    add(8, &[(1, most, vec![1]), (1, 1, vec![1])], Answer::Refused(28));
+    add(0, &[(1, most, vec![1]), (1, 1, vec![1])], Answer::Refused(29));
+    add(1, &[(1, 1, vec![1])], Answer::Refused(29));
+    add(2, &[(1, most, vec![1])], Answer::Given(vec![rap, 0, 1, most as u64, 1]));
+    add(4, &[(1, most, vec![1]), (1, most, vec![2])], Answer::Given(vec![rap, 0, 2, most as u64, 1, most as u64, 2]));
+    add(2, &[(1, most, vec![1]), (1, most, vec![2])], Answer::Refused(29));
+    add(2, &[(2, most, vec![1, 2])], Answer::Refused(29));
+    add(2, &[(3, most, vec![4, 4, 4])], Answer::Given(vec![rap, 0, 1, most as u64, 4]));
+    add(4, &[(2, 2, vec![1, 2]), (1, most, vec![2])], Answer::Refused(28));
+    add(0, &[(1, 0, vec![1])], Answer::Given(vec![rap, 0, 0]));
+}

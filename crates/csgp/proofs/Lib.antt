@@ -1,0 +1,10 @@
+pub mod Given
+pub mod Widths
+pub mod Patterns
+pub mod Check
+pub mod Stretches
+pub mod Walk
+pub mod Tails
+pub mod Filling
+pub mod Parse
+pub mod Lookup

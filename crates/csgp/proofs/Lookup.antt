@@ -1,0 +1,23 @@
+-- The rows of an accepted csgp tell of each sample the index that its pattern gives it, and cover as many samples.
+use mathlib.Core.Path.{_≡_, ap, sym, _∙_}
+use Prim.Native.Nat.{ℕ}
+use mathlib.Core.List.{List, [], reverse}
+use Rattle.fields.specs.Answer.{Answer, given, andThen}
+use Rattle.rows.specs.Row.{Row, Table, covered, indexAt}
+use Rattle.rows.specs.Pattern.{Pattern, samplesOf, coveredBy, indexOf, replay}
+use Rattle.rows.proofs.Replay.{replay-index, replay-covered}
+use Rattle.csgp.specs.Csgp.{csgp, tableOf, parseCsgp}
+use Rattle.csgp.proofs.Given.{given-inj, given-first}
+
+module _ (s : List ℕ) (room : ℕ) {t : Table} {ps : List Pattern} (accepted : parseCsgp s room ≡ given t) (patterns : csgp s ≡ given ps) where
+  rows-of : (out : List Row) × (replay room [] (samplesOf ps) ≡ given out) × (t .rows ≡ reverse out)
+  rows-of =
+      let e = rw patterns at accepted in
+      let o = given-first (replay room [] (samplesOf ps)) (λ rows. given (tableOf s rows)) e in
+      (o .0, o .1, ap (λ (x : Table). x .rows) (sym (given-inj (o .2))))
+
+  pub csgp-index : (k : ℕ) → indexAt (t .rows) k ≡ indexOf ps k
+  csgp-index k = rw (rows-of .2) (replay-index room ps (rows-of .1) k)
+
+  pub csgp-covered : covered (t .rows) ≡ coveredBy ps
+  csgp-covered = rw (rows-of .2) (replay-covered room ps (rows-of .1))

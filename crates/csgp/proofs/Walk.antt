@@ -1,0 +1,114 @@
+-- The walk over the samples: from pattern to pattern, and by stretches within one.
+use mathlib.Core.Path.{_≡_, refl, ap, sym, _∙_}
+use Prim.Native.Nat.{ℕ, suc, _+_, _-_, _*_, _%_, _≤_, _<_}
+use native.Mathlib.Nat.{sub-zero, sub-eq-zero-of-le, mod-lt}
+use native.Mathlib.Omega.{arith}
+use mathlib.Core.List.{List, [], _∷_, _++_, append-assoc}
+use lib.ListN.{length, replicate, length-append, length-replicate}
+use Rattle.fields.specs.Answer.{Answer, given, none, refused, inputLimit}
+use Rattle.rows.specs.Pattern.{Pattern, indexIn, samplesFrom, samplesOf}
+use Rattle.rows.proofs.Samples.{samplesFrom-add, samplesFrom-run}
+use Rattle.csgp.specs.Csgp.{indexWidth, countWidth, lengthWidth, bitCount, csgp}
+use Rattle.csgp.specs.Layout.{pairAt, patternAt, patternsAhead, aheadOf, allPatterns, patternsBehind, Fixed, PairTold}
+use Rattle.csgp.specs.Stretch.{indexBits, IsStretch}
+use Rattle.csgp.specs.Stream.{samplesBehind, Ahead, firstRun, Runs}
+use Rattle.csgp.specs.declared.layout.CsgpLayout.{CsgpLayout}
+use Rattle.csgp.specs.declared.layout.PatternsAt.{PatternsAt}
+use Rattle.csgp.specs.declared.layout.PatternPair.{PatternPair}
+use Rattle.csgp.specs.declared.stretch.Stretch.{Stretch}
+use Rattle.csgp.specs.declared.stream.RunCursor.{RunCursor}
+use Rattle.csgp.proofs.Widths.{widths}
+use Rattle.csgp.proofs.Check.{next-fits}
+use Rattle.csgp.proofs.Patterns.{indices-length, indices-at, Step, pattern-end, pattern-step}
+
+samples-all : (ps : List Pattern) → samplesBehind ps 0 ≡ samplesOf ps
+unfolding samplesOf
+samples-all [] = refl
+samples-all (p ∷ ps) = rw sub-zero
+
+module _ (s : List ℕ) where
+  -- the index of a pattern's sample, from its bits
+  index-bits : (p q k : ℕ) → 0 < pairAt s p .patternLength → indexIn (patternAt s p q) k ≡ indexBits (indexWidth s) s q (k % pairAt s p .patternLength)
+  unfolding indexIn
+  index-bits p q k h = rw (indices-length s (pairAt s p .patternLength) q) (indices-at s (pairAt s p .patternLength) q (k % pairAt s p .patternLength) (mod-lt k h))
+
+  step-at : (here : PatternsAt) {ps : List Pattern} → 0 < here .left → aheadOf s here ≡ given ps → Step s (here .left - 1) (here .pair) (here .indices) ps
+  step-at here h e =
+      let n : suc (here .left - 1) ≡ here .left = omega arith in
+      pattern-step s (here .pair) (here .indices) (here .left - 1) (ap (λ (m : ℕ). patternsAhead m s (here .pair) (here .indices)) n ∙ e)
+
+  pub walk-step : (c : RunCursor) {xs : List ℕ} (a : Ahead s c xs) → 0 < c .here .left → Step s (c .here .left - 1) (c .here .pair) (c .here .indices) (a .patterns)
+  walk-step c a h = step-at (c .here) h (a .ahead)
+
+  pub walk-end : (c : RunCursor) {xs : List ℕ} → Ahead s c xs → c .here .left ≡ 0 → xs ≡ []
+  walk-end c a e =
+      let z = pattern-end s (c .here .pair) (c .here .indices) (ap (λ (m : ℕ). patternsAhead m s (c .here .pair) (c .here .indices)) (sym e) ∙ a .ahead) in
+      a .samples ∙ rw z refl
+
+  pub walk-first : (l : CsgpLayout) {ps : List Pattern} → aheadOf s (allPatterns l) ≡ given ps → Ahead s (firstRun l) (samplesOf ps)
+  walk-first l {ps} a = record { patterns = ps; ahead = a; samples = sym (samples-all ps) }
+
+  module _ (here : PatternsAt) (k : ℕ) {xs : List ℕ} (a : Ahead s (record { here = here; sample = k }) xs) (h : 0 < here .left) where
+    step : Step s (here .left - 1) (here .pair) (here .indices) (a .patterns)
+    step = step-at here h (a .ahead)
+
+    -- the samples of the first pattern, then those of the others
+    parts : xs ≡ samplesFrom (patternAt s (here .pair) (here .indices)) k (pairAt s (here .pair) .sampleCount - k) ++ samplesOf (step .rest)
+    parts = a .samples ∙ ap (λ (ps : List Pattern). samplesBehind ps k) (step .first)
+
+    module _ (l : CsgpLayout) (f : Fixed s l) (pair : PatternPair) (t : PairTold s (here .pair) pair) where
+      -- no sample of the first pattern is left
+      pub walk-next : pair .count ≤ k → Ahead s (record { here = patternsBehind l here (pair .length); sample = 0 }) xs
+      unfolding samplesFrom
+      walk-next b =
+          let z : pairAt s (here .pair) .sampleCount - k ≡ 0 = sub-eq-zero-of-le (rw (← (t .sampleCount)) b) in
+          record {
+            patterns = step .rest;
+            ahead = rw (f .lengthBits, f .countBits, f .indexBits, t .patternLength) (step .ahead);
+            samples = parts ∙ rw z (sym (samples-all (step .rest)));
+          }
+
+      -- a stretch of the first pattern
+      pub walk-run : (r : Stretch) → IsStretch (λ i. indexBits (l .«index_width») s (here .indices) (i % pair .length)) k (pair .count) r → Runs s xs (r .count) (r .index) (record { here = here; sample = k + r .count })
+      walk-run r g =
+          let p = patternAt s (here .pair) (here .indices) in
+          let n = pairAt s (here .pair) .sampleCount in
+          let m = n - (k + r .count) in
+          let w : k + r .count ≤ n = rw (t .sampleCount) at (g .within) in
+          let e : n - k ≡ r .count + m = omega arith in
+          let same : (j : ℕ) → j < r .count → indexIn p (k + j) ≡ r .index = λ j b. index-bits (here .pair) (here .indices) (k + j) (step .long) ∙ rw (f .indexBits, t .patternLength) at (g .same j b) in
+          let q : samplesFrom p k (n - k) ≡ replicate (r .count) (r .index) ++ samplesFrom p (k + r .count) m = rw e (samplesFrom-add p k (r .count) m ∙ rw (samplesFrom-run p k (r .count) same) refl) in
+          record {
+            some = g .some;
+            small = omega (arith, g .within, t .countFits);
+            others = samplesFrom p (k + r .count) m ++ samplesOf (step .rest);
+            samples = parts ∙ rw q (append-assoc (replicate (r .count) (r .index)) (samplesFrom p (k + r .count) m) (samplesOf (step .rest)));
+            ahead = record { patterns = p ∷ step .rest; ahead = a .ahead ∙ ap given (step .first); samples = refl };
+          }
+
+      -- what a stretch of the first pattern and the step to the next one ask
+      pub stretch-fits : k < pair .count → (l .«index_width» ≤ 32) × (0 < pair .length) × (k < pair .count) × (here .indices + l .«index_width» * pair .length ≤ bitCount s) × (length s ≤ inputLimit)
+      stretch-fits b =
+          (omega (arith, f .indexBits, widths s .index), rw (t .patternLength) (step .long), b, rw (f .indexBits, t .patternLength) (step .indicesFit), f .short)
+
+      pub behind-fits : (0 < here .left) × (here .pair + l .«length_width» + l .«count_width» ≤ 18446744073709551615)
+          × (here .indices + l .«index_width» * pair .length ≤ 18446744073709551615)
+      behind-fits = next-fits s l f here (pair .length) h (step .pairFits) (rw (t .patternLength) (step .indicesFit))
+
+-- how many samples are still to come
+abbrev leftIn : Answer (List Pattern) → ℕ → ℕ
+leftIn (given ps) k = length (samplesBehind ps k)
+leftIn none k = 0
+leftIn (refused n) k = 0
+
+abbrev pub samplesLeft : List ℕ → RunCursor → ℕ
+samplesLeft s c = leftIn (aheadOf s (c .here)) (c .sample)
+
+left-ahead : (s : List ℕ) (c : RunCursor) {xs : List ℕ} → Ahead s c xs → samplesLeft s c ≡ length xs
+left-ahead s c a = rw (a .ahead, a .samples)
+
+-- a run leaves fewer
+pub left-less : (s : List ℕ) (c : RunCursor) {xs : List ℕ} {n i : ℕ} {d : RunCursor} → Ahead s c xs → Runs s xs n i d → samplesLeft s d < samplesLeft s c
+left-less s c {xs} {n} {i} {d} a r =
+    let e : length xs ≡ n + length (r .others) = ap length (r .samples) ∙ length-append (replicate n i) (r .others) ∙ rw (length-replicate n i) refl in
+    rw (left-ahead s c a, left-ahead s d (r .ahead)) (omega (arith, r .some))

@@ -1,0 +1,5 @@
+pub mod Csgp
+pub mod Layout
+pub mod Stretch
+pub mod Stream
+pub mod Replay

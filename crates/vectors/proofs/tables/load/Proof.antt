@@ -1,0 +1,74 @@
+use borrow.Author.Needs.{needs}
+use native.Mathlib.Omega.{arith}
+use Prim.Native.Nat.{_+_, _-_, _*_, _/_, _≤_}
+use lib.ListN.{length}
+use mathlib.Core.Path.{_≡_}
+use lib.ListN.{length-set}
+use Rattle.vectors.proofs.tables.load.Statement.{statement}
+use Rattle.vectors.proofs.tables.load.Tie as tie
+use Rattle.vectors.proofs.tables.load.Reads as reads
+use Rattle.vectors.proofs.tables.load.Lts as lts
+use Rattle.fields.proofs.read_u32.Reads as read-u32-reads
+
+abbrev Inv-loop : tie.InvT-loop
+Inv-loop s rows₀ k₀ rows k = (k ≤ length rows) × (length rows ≡ length rows₀)
+
+abbrev μ-loop : tie.MeasureT-loop
+μ-loop s rows₀ k₀ rows k = length rows - k
+
+-- src/tables.rt:75:5
+loop-holds : tie.Need-loop-holds Inv-loop μ-loop
+loop-holds c = search needs
+
+-- src/tables.rt:76:39
+mul-read-u32 : tie.Need-mul-read-u32 Inv-loop μ-loop
+mul-read-u32 c = search needs
+
+-- src/tables.rt:76:19
+read-u32-requires : tie.Need-read-u32-requires Inv-loop μ-loop
+read-u32-requires c κs = search needs
+
+-- src/tables.rt:76:9
+mul-rows : tie.Need-mul-rows Inv-loop μ-loop
+mul-rows c = search needs
+
+-- src/tables.rt:76:9
+slice-write-rows : tie.Need-slice-write-rows Inv-loop μ-loop
+slice-write-rows c = search needs
+
+-- src/tables.rt:77:13
+add-k : tie.Need-add-k Inv-loop μ-loop
+add-k c = search needs
+
+-- src/tables.rt:75:5
+loop-less : tie.Need-loop-less Inv-loop μ-loop
+loop-less c = simp length-set (omega arith)
+
+-- src/tables.rt:75:5
+loop-again : tie.Need-loop-again Inv-loop μ-loop
+loop-again c = (simp length-set (omega arith), simp length-set (omega arith))
+
+-- src/tables.rt:71:1
+same-length : tie.Need-same-length Inv-loop μ-loop
+same-length c = search needs
+
+-- src/tables.rt:71:1
+returns : tie.Need-returns Inv-loop μ-loop
+returns c = search needs
+
+pub load-spec : {M : Type 1} → statement M
+load-spec =
+    tie.close
+    (tie.spec
+    Inv-loop
+    μ-loop
+    loop-holds
+    mul-read-u32
+    read-u32-requires
+    mul-rows
+    slice-write-rows
+    add-k
+    loop-less
+    loop-again
+    same-length
+    returns)
