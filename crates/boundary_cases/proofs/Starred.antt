@@ -1,10 +1,14 @@
 -- Every row of the table holds: antt computes the definitions.
 use mathlib.Core.Path.{refl}
-use Rattle.fields.specs.Number.{beAt}
+use Rattle.fields.specs.Number.{beAt, bitAt, bitsAt}
 use Rattle.atom.specs.Atom.{headerAt, declaredAt}
+use Rattle.rows.specs.Row.{rowsOf, covered, indexAt}
+use Rattle.rows.specs.Pattern.{indexIn, samplesFrom, samplesOf, enter, replay}
+use Rattle.sbgp.specs.Sbgp.{readRows, sbgp}
+use Rattle.csgp.specs.Csgp.{widthOf, readPairs, readIndices, readPatterns, csgp}
 use Rattle.boundary_cases.specs.Case.{AllHold}
-use Rattle.boundary_cases.specs.Headers.{headers}
+use Rattle.boundary_cases.specs.All.{cases}
 
-pub starred : AllHold headers
-unfolding beAt headerAt declaredAt
-starred = (refl, (refl, (refl, (refl, (refl, (refl, (refl, (refl, tt))))))))
+pub starred : AllHold cases
+unfolding beAt bitAt bitsAt headerAt declaredAt rowsOf covered indexAt indexIn samplesFrom samplesOf enter replay readRows sbgp widthOf readPairs readIndices readPatterns csgp
+starred = (refl, (refl, (refl, (refl, (refl, (refl, (refl, (refl, (refl, (refl, (refl, (refl, (refl, (refl, (refl, (refl, (refl, (refl, (refl, tt)))))))))))))))))))

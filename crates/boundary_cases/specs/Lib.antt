@@ -1,2 +1,4 @@
 pub mod Case
 pub mod Headers
+pub mod Tables
+pub mod All

@@ -1,0 +1,118 @@
+//! One entry, run by this library, by the Rust, or by neither, on the same input: `bench ENTRY ours|rust|none`.
+//! `bench grow SHAPE SAMPLES CALLS` runs a csgp of that many samples.
+
+use crate::{atom, sample_groups};
+use std::hint::black_box;
+use std::io::Cursor;
+
+unsafe extern "C" {
+    fn film_next_child(s: *const u8, len: usize, at: u64, known: u32, end: u64, out: *mut u64) -> u32;
+    fn film_parse_sbgp(s: *const u8, len: usize, rows: *mut u32, rows_len: usize, out: *mut u64) -> u32;
+    fn film_parse_csgp(s: *const u8, len: usize, rows: *mut u32, rows_len: usize, out: *mut u64) -> u32;
+    fn film_group_index_for_sample(rows: *const u32, rows_len: usize, sample: u32, out: *mut u64) -> u32;
+}
+
+type Parser = unsafe extern "C" fn(*const u8, usize, *mut u32, usize, *mut u64) -> u32;
+
+/// A thousand atoms of 16 bytes.
+fn atoms() -> Vec<u8> {
+    (0..1000u32).flat_map(|k| [16u32.to_be_bytes(), *b"free", k.to_be_bytes(), [0; 4]].concat()).collect()
+}
+
+/// An sbgp of a thousand rows.
+fn sbgp() -> Vec<u8> {
+    let mut s = [[0; 4], *b"rap ", 1000u32.to_be_bytes()].concat();
+    s.extend((0..1000u32).flat_map(|k| [(k % 7 + 1).to_be_bytes(), (k % 3).to_be_bytes()].concat()));
+    s
+}
+
+/// A csgp with 32-bit fields.
+fn csgp(patterns: &[(u32, &[u32])]) -> Vec<u8> {
+    let mut s = [[0, 0, 0, 0x3f], *b"rap ", (patterns.len() as u32).to_be_bytes()].concat();
+    for (count, indices) in patterns {
+        s.extend([(indices.len() as u32).to_be_bytes(), count.to_be_bytes()].concat());
+    }
+    s.extend(patterns.iter().flat_map(|(_, is)| is.iter().flat_map(|i| i.to_be_bytes())));
+    s
+}
+
+fn parse(parser: Parser, s: &[u8], rows: &mut [u32]) -> u64 {
+    let mut out = [0u64; 3];
+    let status = unsafe { parser(s.as_ptr(), s.len(), rows.as_mut_ptr(), rows.len(), out.as_mut_ptr()) };
+    assert_eq!(status, 0);
+    black_box(out[2])
+}
+
+fn parsed(side: &str, s: Vec<u8>, rows: usize, parser: Parser, rust: fn(&[u8]) -> crate::standalone::Result<sample_groups::SampleToGroup>) {
+    let mut run = vec![0u32; 2 * rows];
+    let s = black_box(s);
+    match side {
+        "ours" => drop(parse(parser, &s, &mut run)),
+        "rust" => drop(black_box(rust(&s).unwrap())),
+        _ => {}
+    }
+    black_box(run);
+}
+
+fn walked(side: &str) {
+    let s = black_box(atoms());
+    let end = s.len() as u64;
+    match side {
+        "ours" => {
+            let (mut at, mut out) = (0, [0u64; 6]);
+            while unsafe { film_next_child(s.as_ptr(), s.len(), at, 1, end, out.as_mut_ptr()) } == 0 {
+                at = out[0];
+            }
+        }
+        "rust" => atom::walk_children(&mut Cursor::new(&s[..]), Some(end), |_, h| {
+            black_box(h);
+            Ok(())
+        })
+        .unwrap(),
+        _ => {}
+    }
+}
+
+fn looked_up(side: &str) {
+    let table = black_box(sample_groups::parse_sbgp(&sbgp()).unwrap());
+    let rows: Vec<u32> = black_box(table.entries.iter().flat_map(|e| [e.sample_count, e.group_description_index]).collect());
+    for sample in (0..4000u32).step_by(40) {
+        match side {
+            "ours" => {
+                let mut out = [0u64];
+                unsafe { film_group_index_for_sample(rows.as_ptr(), rows.len(), sample, out.as_mut_ptr()) };
+                black_box(out);
+            }
+            "rust" => drop(black_box(table.group_index_for_sample(sample))),
+            _ => {}
+        }
+    }
+}
+
+/// A csgp whose rows stay the same in number while its samples grow.
+fn grow(shape: &str, samples: u32, calls: u32) {
+    let s = match shape {
+        "uniform" => csgp(&[(samples, &[9])]),
+        _ => csgp(&[(samples, &[1, 1]), (samples, &[2]), (samples, &[3])]),
+    };
+    let s = black_box(s);
+    let mut run = [0u32; 16];
+    for _ in 0..calls {
+        parse(film_parse_csgp, &s, &mut run);
+    }
+}
+
+pub fn main() {
+    let words: Vec<String> = std::env::args().skip(1).collect();
+    let words: Vec<&str> = words.iter().map(String::as_str).collect();
+    match words[..] {
+        ["list"] => println!("walk_children parse_sbgp parse_csgp_wraps parse_csgp_uniform group_index_for_sample"),
+        ["walk_children", side] => walked(side),
+        ["parse_sbgp", side] => parsed(side, sbgp(), 1000, film_parse_sbgp, sample_groups::parse_sbgp),
+        ["parse_csgp_wraps", side] => parsed(side, csgp(&[(9000, &[1, 2, 2])]), 6001, film_parse_csgp, sample_groups::parse_csgp),
+        ["parse_csgp_uniform", side] => parsed(side, csgp(&[(9000, &[1])]), 1, film_parse_csgp, sample_groups::parse_csgp),
+        ["group_index_for_sample", side] => looked_up(side),
+        ["grow", shape, samples, calls] => grow(shape, samples.parse().unwrap(), calls.parse().unwrap()),
+        _ => panic!("bench ENTRY ours|rust|none"),
+    }
+}

@@ -1,0 +1,8 @@
+-- The whole table.
+use mathlib.Core.List.{List, _++_}
+use Rattle.boundary_cases.specs.Case.{Case}
+use Rattle.boundary_cases.specs.Headers.{headers}
+use Rattle.boundary_cases.specs.Tables.{tables}
+
+abbrev pub cases : List Case
+cases = headers ++ tables
