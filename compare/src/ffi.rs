@@ -27,6 +27,22 @@ unsafe extern "C" {
     fn film_parse_sbgp(s: *const u8, len: usize, rows: *mut u32, rows_len: usize, out: *mut u64) -> u32;
     fn film_parse_csgp(s: *const u8, len: usize, rows: *mut u32, rows_len: usize, out: *mut u64) -> u32;
     fn film_group_index_for_sample(rows: *const u32, rows_len: usize, sample: u32, out: *mut u64) -> u32;
+    fn film_parse_sgpd(s: *const u8, len: usize, out: *mut u64) -> u32;
+    fn film_entry_place(s: *const u8, len: usize, index: u32, out: *mut u64) -> u32;
+    fn film_decode_roll(s: *const u8, len: usize, out: *mut i16) -> u32;
+    fn film_decode_prol(s: *const u8, len: usize, out: *mut i16) -> u32;
+    fn film_decode_rap(s: *const u8, len: usize, out: *mut u64) -> u32;
+    fn film_decode_tele(s: *const u8, len: usize, out: *mut u64) -> u32;
+    fn film_decode_sap(s: *const u8, len: usize, out: *mut u64) -> u32;
+    fn film_decode_rash(s: *const u8, len: usize, out: *mut u64) -> u32;
+    fn film_rash_operation_point(s: *const u8, len: usize, k: u32, out: *mut u64) -> u32;
+    fn film_decode_alst(s: *const u8, len: usize, out: *mut u64) -> u32;
+    fn film_alst_sample_offset(s: *const u8, len: usize, k: u32, out: *mut u64) -> u32;
+    fn film_alst_piece(s: *const u8, len: usize, k: u32, out: *mut u64) -> u32;
+    fn film_split_csgp_index(raw: u32, out: *mut u64) -> u32;
+    fn film_described_place(film: *const u8, film_len: usize, fragment: *const u8, fragment_len: usize, raw: u32, out: *mut u64) -> u32;
+    fn film_rate_of_point(bitrate: u32, share: u16) -> u64;
+    fn film_decode_alike(kind: u32, a: *const u8, a_len: usize, b: *const u8, b_len: usize, out: *mut u64) -> u32;
     fn film_covered_samples(rows: *const u32, rows_len: usize, out: *mut u64) -> u32;
 }
 
@@ -135,4 +151,75 @@ pub fn group_index_for_sample(rows: &[u32], sample: u32) -> Answer<u32> {
 
 pub fn covered_samples(rows: &[u32]) -> Answer<u64> {
     with_out::<1>(|out| unsafe { film_covered_samples(rows.as_ptr(), rows.len(), out) }).map(|[sum]| sum)
+}
+
+/// Version, type, default length, default index, entry count.
+pub fn parse_sgpd(s: &Input, len: usize) -> Answer<[u64; 5]> {
+    with_out(|out| unsafe { film_parse_sgpd(s.part(len), len, out) })
+}
+
+pub fn entry_place(s: &Input, len: usize, index: u32) -> Answer<[u64; 2]> {
+    with_out(|out| unsafe { film_entry_place(s.part(len), len, index, out) })
+}
+
+/// The distance of a roll or a prol; the guards are numbers of 16 bits here.
+pub fn decode_roll(s: &Input, len: usize, prol: bool) -> Answer<i16> {
+    let call = if prol { film_decode_prol } else { film_decode_roll };
+    let mut framed = [0x5a5a; 3];
+    let status = unsafe { call(s.part(len), len, framed[1..].as_mut_ptr()) };
+    assert!(framed[0] == 0x5a5a && framed[2] == 0x5a5a, "memory beside `out` was written");
+    if status == OK {
+        return Answer::Given(framed[1]);
+    }
+    assert!(framed[1] == 0x5a5a, "`out` was written without a value");
+    Answer::Refused(status)
+}
+
+pub fn decode_rap(s: &Input, len: usize) -> Answer<[u64; 2]> {
+    with_out(|out| unsafe { film_decode_rap(s.part(len), len, out) })
+}
+
+pub fn decode_tele(s: &Input, len: usize) -> Answer<[u64; 1]> {
+    with_out(|out| unsafe { film_decode_tele(s.part(len), len, out) })
+}
+
+pub fn decode_sap(s: &Input, len: usize) -> Answer<[u64; 2]> {
+    with_out(|out| unsafe { film_decode_sap(s.part(len), len, out) })
+}
+
+pub fn decode_rash(s: &Input, len: usize) -> Answer<[u64; 4]> {
+    with_out(|out| unsafe { film_decode_rash(s.part(len), len, out) })
+}
+
+pub fn rash_operation_point(s: &Input, len: usize, k: u32) -> Answer<[u64; 2]> {
+    with_out(|out| unsafe { film_rash_operation_point(s.part(len), len, k, out) })
+}
+
+pub fn decode_alst(s: &Input, len: usize) -> Answer<[u64; 3]> {
+    with_out(|out| unsafe { film_decode_alst(s.part(len), len, out) })
+}
+
+pub fn alst_sample_offset(s: &Input, len: usize, k: u32) -> Answer<[u64; 1]> {
+    with_out(|out| unsafe { film_alst_sample_offset(s.part(len), len, k, out) })
+}
+
+pub fn alst_piece(s: &Input, len: usize, k: u32) -> Answer<[u64; 2]> {
+    with_out(|out| unsafe { film_alst_piece(s.part(len), len, k, out) })
+}
+
+pub fn split_csgp_index(raw: u32) -> Answer<[u64; 2]> {
+    with_out(|out| unsafe { film_split_csgp_index(raw, out) })
+}
+
+/// 1 for the fragment, the place and the length.
+pub fn described_place(film: &Input, film_len: usize, fragment: &Input, fragment_len: usize, raw: u32) -> Answer<[u64; 3]> {
+    with_out(|out| unsafe { film_described_place(film.part(film_len), film_len, fragment.part(fragment_len), fragment_len, raw, out) })
+}
+
+pub fn rate_of_point(bitrate: u32, share: u16) -> u64 {
+    unsafe { film_rate_of_point(bitrate, share) }
+}
+
+pub fn decode_alike(kind: u32, a: &Input, a_len: usize, b: &Input, b_len: usize) -> Answer<[u64; 1]> {
+    with_out(|out| unsafe { film_decode_alike(kind, a.part(a_len), a_len, b.part(b_len), b_len, out) })
 }

@@ -3,9 +3,11 @@
 
 mod atoms;
 mod csgp;
+mod entries;
 mod ffi;
 mod random;
 mod sbgp;
+mod sgpd;
 mod tables;
 mod tally;
 mod vectors;
@@ -20,6 +22,10 @@ pub fn main() {
                 sbgp::vectors(&mut vectors);
                 csgp::vectors(&mut vectors);
             }
+            Some("descriptions") => {
+                sgpd::vectors(&mut vectors);
+                entries::vectors(&mut vectors);
+            }
             Some("document") => csgp::document(&mut vectors),
             _ => panic!("vectors of what?"),
         }
@@ -30,5 +36,7 @@ pub fn main() {
     atoms::run(&mut tally);
     sbgp::run(&mut tally);
     csgp::run(&mut tally);
+    sgpd::run(&mut tally);
+    entries::run(&mut tally);
     tally.report();
 }

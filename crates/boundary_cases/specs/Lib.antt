@@ -1,4 +1,5 @@
 pub mod Case
 pub mod Headers
 pub mod Tables
+pub mod Descriptions
 pub mod All

@@ -3,8 +3,8 @@ use mathlib.Core.Path.{_≡_, refl, ap, sym, _∙_}
 use Prim.Native.Nat.{ℕ, suc, _+_, _-_, _*_, _≤_, _<_}
 use native.Mathlib.Nat.{suc-mul}
 use native.Mathlib.Omega.{arith}
-use mathlib.Core.List.{List, [], _∷_, _++_, append-nil, append-assoc}
 use borrow.Author.Tests.{le-ltb}
+use mathlib.Core.List.{List, [], _∷_, _++_, append-nil, append-assoc}
 use lib.ListN.{length}
 use Rattle.fields.specs.Answer.{Answer, given, none, refused, andThen}
 use Rattle.rows.specs.Pattern.{Pattern}
@@ -62,7 +62,7 @@ module _ (s : List ℕ) (l : CsgpLayout) (f : Fixed s l) where
   -- places of fields that stand in the payload are small
   pub next-fits : (here : PatternsAt) (n : ℕ) → 0 < here .left → here .pair + lengthWidth s + countWidth s ≤ bitCount s → here .indices + indexWidth s * n ≤ bitCount s →
       (0 < here .left) × (here .pair + l .«length_width» + l .«count_width» ≤ 18446744073709551615)
-          × (here .indices + l .«index_width» * n ≤ 18446744073709551615)
+      × (here .indices + l .«index_width» * n ≤ 18446744073709551615)
   next-fits here n h p q = (h, rw (f .lengthBits, f .countBits) (omega (arith, f .short)), rw (f .indexBits) (omega (arith, f .short)))
 
   module _ (here : PatternsAt) (c : Checked s here) where

@@ -1,27 +1,24 @@
 -- Rows written in front of a run of numbers.
 use mathlib.Core.Path.{_≡_, refl, ap, sym, _∙_}
 use mathlib.Core.Bool.{Bool, true, false}
-use Prim.Native.Nat.{ℕ, suc, _+_, _-_, _*_, _/_, _≤_, _<_}
-use native.Mathlib.Nat.{mul-zero, zero-add}
-use native.Mathlib.Numerals.{add-one}
+use Prim.Native.Nat.{ℕ, suc, _+_, _-_, _*_, _≤_, _<_}
 use native.Mathlib.Omega.{arith}
-use borrow.Author.Tests.{eqb-true}
-use mathlib.Core.List.{List, [], _∷_, _++_, reverse, reverse-cons, append-nil, append-assoc}
+use mathlib.Core.List.{List, [], _∷_, _++_, reverse, reverse-cons, append-assoc}
 use lib.Dec.{eqb}
-use lib.ListN.{length, drop, set, getD, replicate, length-append, length-set, length-reverse, length-drop, length-replicate}
-use lib.Seq.{drop-cons, drop-drop, set-at}
-use Rattle.fields.specs.Answer.{Answer, given, none, refused, choose, andThen}
+use lib.ListN.{length, drop, set, getD, replicate, length-append, length-reverse}
+use lib.Seq.{drop-cons, set-at}
+use Rattle.fields.specs.Answer.{given, refused, choose}
 use Rattle.rows.specs.Row.{Row, flat, recordsIn}
-use Rattle.rows.specs.Pattern.{Pattern, countLimit, replay}
+use Rattle.rows.specs.Pattern.{Pattern}
 use Rattle.rows.proofs.Replay.{replay-room}
-use Rattle.csgp.specs.Layout.{aheadOf, Fixed}
-use Rattle.csgp.specs.Stream.{Ahead, firstRun, Runs, samplesBehind}
-use Rattle.csgp.specs.Replay.{tailOf, enterRun, rowsFor, filledRows}
+use Rattle.csgp.specs.Layout.{Fixed}
+use Rattle.csgp.specs.Stream.{firstRun, Runs}
+use Rattle.csgp.specs.Replay.{enterRun, rowsFor, filledRows}
 use Rattle.csgp.specs.declared.stream.RunCursor.{RunCursor}
 use Rattle.csgp.specs.declared.replay.Tail.{Tail}
 use Rattle.csgp.specs.declared.layout.CsgpLayout.{CsgpLayout}
 use Rattle.csgp.specs.Csgp.{csgp}
-use Rattle.csgp.proofs.Tails.{below, grown, withRun, Replaying, replaying-first, replaying-end, replaying-refused, replaying-run, Told, entered}
+use Rattle.csgp.proofs.Tails.{below, grown, Replaying, replaying-first, replaying-end, replaying-refused, replaying-run, Told, entered}
 use Rattle.csgp.proofs.Given.{refused-given}
 
 flat-append : (a b : List Row) → flat (a ++ b) ≡ flat a ++ flat b
@@ -55,8 +52,7 @@ module _ (e l : List ℕ) where
       let m = 2 * length rows in
       let n : suc (suc m) ≡ 2 * suc (length rows) = omega arith in
       let a : m < length e = omega arith in
-      let b : suc m < length e = omega arith in
-      (
+      let b : suc m < length e = omega arith in (
         getD e m 0,
         getD e (suc m) 0,
         w ∙ rw (drop-cons e m 0 a, drop-cons e (suc m) 0 b, n) refl,
@@ -80,11 +76,11 @@ module _ (e l : List ℕ) where
       let d = drop (2 * suc (length rows)) e in
       let n : length (f ++ x .count ∷ []) ≡ m + 1 = length-append f (x .count ∷ []) ∙ omega (arith, front-length rows) in
       let one : set l m (x .count) ≡ (f ++ x .count ∷ []) ++ b ∷ d =
-          ap (λ (k : List ℕ). set k m (x .count)) w ∙ set-at f a (b ∷ d) (x .count) m (front-length rows) ∙ sym (append-assoc f (x .count ∷ []) (b ∷ d)) in
+      ap (λ (k : List ℕ). set k m (x .count)) w ∙ set-at f a (b ∷ d) (x .count) m (front-length rows) ∙ sym (append-assoc f (x .count ∷ []) (b ∷ d)) in
       ap (λ (k : List ℕ). set k (m + 1) (x .index)) one
-          ∙ set-at (f ++ x .count ∷ []) b d (x .index) (m + 1) n
-          ∙ append-assoc f (x .count ∷ []) (x .index ∷ d)
-          ∙ rw (flat-last x rows) (sym (append-assoc f (x .count ∷ x .index ∷ []) d))
+      ∙ set-at (f ++ x .count ∷ []) b d (x .index) (m + 1) n
+      ∙ append-assoc f (x .count ∷ []) (x .index ∷ d)
+      ∙ rw (flat-last x rows) (sym (append-assoc f (x .count ∷ x .index ∷ []) d))
 
 -- the replay on its way, with its rows in front of the run
 pub record Filling (s e : List ℕ) (c : RunCursor) (tail : Tail) (l : List ℕ) : Type 0 where

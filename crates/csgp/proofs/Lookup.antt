@@ -1,10 +1,12 @@
 -- The rows of an accepted csgp tell of each sample the index that its pattern gives it, and cover as many samples.
 use mathlib.Core.Path.{_≡_, ap, sym, _∙_}
-use Prim.Native.Nat.{ℕ}
+use Prim.Native.Nat.{ℕ, _*_, _≤_}
 use mathlib.Core.List.{List, [], reverse}
-use Rattle.fields.specs.Answer.{Answer, given, andThen}
-use Rattle.rows.specs.Row.{Row, Table, covered, indexAt}
+use lib.ListN.{length, take}
+use Rattle.fields.specs.Answer.{given}
+use Rattle.rows.specs.Row.{Row, Table, covered, indexAt, recordLimit, filled, lookup}
 use Rattle.rows.specs.Pattern.{Pattern, samplesOf, coveredBy, indexOf, replay}
+use Rattle.rows.proofs.Front.{lookup-front}
 use Rattle.rows.proofs.Replay.{replay-index, replay-covered}
 use Rattle.csgp.specs.Csgp.{csgp, tableOf, parseCsgp}
 use Rattle.csgp.proofs.Given.{given-inj, given-first}
@@ -21,3 +23,7 @@ module _ (s : List ℕ) (room : ℕ) {t : Table} {ps : List Pattern} (accepted :
 
   pub csgp-covered : covered (t .rows) ≡ coveredBy ps
   csgp-covered = rw (rows-of .2) (replay-covered room ps (rows-of .1))
+
+  -- the same through group_index_for_sample, over the front of the run that parse_csgp wrote into
+  pub csgp-lookup : (l : List ℕ) → length (t .rows) ≤ recordLimit → (k : ℕ) → lookup (take (2 * length (t .rows)) (filled (given t) l)) k ≡ given (indexOf ps k)
+  csgp-lookup l few k = lookup-front t l few k ∙ ap given (csgp-index k)

@@ -1,20 +1,18 @@
 -- From the rows of a payload to what its reader answers, and what the rows tell of its patterns.
-use mathlib.Core.Path.{_≡_, refl, ap, sym, _∙_}
-use Prim.Native.Nat.{ℕ, _*_}
+use mathlib.Core.Path.{_≡_, refl, _∙_}
+use Prim.Native.Nat.{ℕ}
 use native.Mathlib.Omega.{arith}
-use mathlib.Core.List.{List, [], _++_, reverse}
-use lib.ListN.{length, drop, length-reverse}
+use mathlib.Core.List.{List, []}
+use lib.ListN.{length, length-reverse}
 use Rattle.fields.specs.Answer.{Answer, given, none, refused, andThen}
-use Rattle.rows.specs.Row.{Row, Table, flat, filled, covered, indexAt}
-use Rattle.rows.specs.Pattern.{Pattern, samplesOf, coveredBy, indexOf, replay}
-use Rattle.rows.specs.Found.{Head, headOf, parsedOf, Parses}
+use Rattle.rows.specs.Row.{Row}
+use Rattle.rows.specs.Pattern.{Pattern, samplesOf, replay}
+use Rattle.rows.specs.Found.{Parses}
 use Rattle.rows.specs.declared.ParsedTable.the-variants as parsed
-use Rattle.rows.proofs.Replay.{replay-index, replay-covered}
 use Rattle.csgp.specs.Csgp.{csgp, tableOf, parseCsgp}
 use Rattle.csgp.specs.Layout.{Fixed}
 use Rattle.csgp.specs.Replay.{rowsFor, filledRows}
 use Rattle.csgp.specs.declared.layout.CsgpLayout.{CsgpLayout}
-use Rattle.csgp.proofs.Given.{given-inj, given-first}
 
 module _ (s : List ℕ) (room : ℕ) where
   pub parse-rows : parseCsgp s room ≡ andThen (rowsFor s room) (λ rows. given (tableOf s rows))
@@ -22,7 +20,7 @@ module _ (s : List ℕ) (room : ℕ) where
     where
       by : (a : Answer (List Pattern)) →
           andThen a (λ ps. andThen (replay room [] (samplesOf ps)) (λ rows. given (tableOf s rows)))
-              ≡ andThen (andThen a (λ ps. replay room [] (samplesOf ps))) (λ rows. given (tableOf s rows))
+          ≡ andThen (andThen a (λ ps. replay room [] (samplesOf ps))) (λ rows. given (tableOf s rows))
       by (given ps) = refl
       by none = refl
       by (refused n) = refl

@@ -1,15 +1,14 @@
 -- How the patterns of a payload are read, by cases on what is there.
 use mathlib.Core.Path.{_≡_, refl, ap, sym, _∙_}
-use mathlib.Core.Bool.{Bool, true, false}
 use Prim.Native.Nat.{ℕ, zero, suc, _+_, _-_, _*_, _%_, _≤_, _<_}
-use native.Mathlib.Nat.{add-zero, add-assoc, suc-mul, mul-suc, mul-zero, mod-eq-of-lt, mod-eq-sub-mod}
+use native.Mathlib.Nat.{add-zero, suc-mul, mul-suc, mul-zero, mod-eq-of-lt, mod-eq-sub-mod}
 use native.Mathlib.Decide.{decLt}
 use native.Mathlib.Omega.{arith}
 use borrow.Author.Tests.{lt-ltb, le-ltb, eq-eqb, ne-eqb, ltb-false, eqb-false}
-use mathlib.Core.List.{List, [], _∷_, _++_}
+use mathlib.Core.List.{List, [], _∷_}
 use lib.Dec.{ltb, eqb}
 use lib.ListN.{length, getD}
-use Rattle.fields.specs.Answer.{Answer, given, none, refused, choose, refuseIf, andThen}
+use Rattle.fields.specs.Answer.{Answer, given, refused, choose, andThen}
 use Rattle.fields.specs.Number.{bitsAt}
 use Rattle.rows.specs.Pattern.{Pattern}
 use Rattle.csgp.specs.Csgp.{indexWidth, countWidth, lengthWidth, bitCount, Pair, readPairs, readIndices, readPatterns}
@@ -52,7 +51,7 @@ module _ (s : List ℕ) where
                   let b' : p + lengthWidth s + countWidth s ≤ bitCount s = omega arith in
                   let d : bitCount s - p - (lengthWidth s + countWidth s) ≡ bitCount s - (p + lengthWidth s + countWidth s) = omega arith in
                   let r : (bitCount s - p) % (lengthWidth s + countWidth s) ≡ (bitCount s - (p + lengthWidth s + countWidth s)) % (lengthWidth s + countWidth s) =
-                      mod-eq-sub-mod (omega arith) ∙ rw d refl in
+                  mod-eq-sub-mod (omega arith) ∙ rw d refl in
                   simp (le-ltb _ _ a', le-ltb _ _ b', r, pairs-cut n (p + lengthWidth s + countWidth s) w b' (omega arith))
             ]
       ]

@@ -1,11 +1,11 @@
 -- The replay by runs: what a run does to the rows, and what the rows so far and the samples to come decide.
-use mathlib.Core.Path.{_≡_, refl, ap, sym, subst, _∙_}
+use mathlib.Core.Path.{_≡_, refl, ap, _∙_}
 use mathlib.Core.Bool.{Bool, true, false}
-use Prim.Native.Nat.{ℕ, suc, _+_, _≤_, _<_}
+use Prim.Native.Nat.{ℕ, _+_, _≤_, _<_}
 use native.Mathlib.Numerals.{add-one}
 use native.Mathlib.Omega.{arith}
 use borrow.Author.Tests.{lt-ltb, eq-eqb, ltb-true, ltb-false, leb-true, leb-false, eqb-true, eqb-false}
-use mathlib.Core.List.{List, [], _∷_, _++_}
+use mathlib.Core.List.{List, [], _∷_}
 use lib.Dec.{ltb, leb, eqb}
 use lib.ListN.{length, replicate}
 use Rattle.fields.specs.Answer.{Answer, given, none, refused, choose, andThen}
@@ -19,7 +19,6 @@ use Rattle.csgp.specs.Replay.{tailOf, joined, begun, enterRun, rowsFor}
 use Rattle.csgp.specs.declared.layout.CsgpLayout.{CsgpLayout}
 use Rattle.csgp.specs.declared.stream.RunCursor.{RunCursor}
 use Rattle.csgp.specs.declared.replay.Tail.{Tail}
-use Rattle.csgp.proofs.Check.{csgp-ahead}
 use Rattle.csgp.proofs.Walk.{walk-first}
 
 -- the rows below the last one, once n samples of index i are entered
@@ -99,7 +98,7 @@ module _ (s : List ℕ) (room : ℕ) where
       record {
         rows = [];
         coming = samplesOf ps;
-        ahead = walk-first s l (sym (csgp-ahead s l f) ∙ e);
+        ahead = walk-first s l f e;
         standing = refl;
         small = omega arith;
         decides = rw e;

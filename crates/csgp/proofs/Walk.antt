@@ -8,8 +8,8 @@ use lib.ListN.{length, replicate, length-append, length-replicate}
 use Rattle.fields.specs.Answer.{Answer, given, none, refused, inputLimit}
 use Rattle.rows.specs.Pattern.{Pattern, indexIn, samplesFrom, samplesOf}
 use Rattle.rows.proofs.Samples.{samplesFrom-add, samplesFrom-run}
-use Rattle.csgp.specs.Csgp.{indexWidth, countWidth, lengthWidth, bitCount, csgp}
-use Rattle.csgp.specs.Layout.{pairAt, patternAt, patternsAhead, aheadOf, allPatterns, patternsBehind, Fixed, PairTold}
+use Rattle.csgp.specs.Csgp.{indexWidth, bitCount, csgp}
+use Rattle.csgp.specs.Layout.{pairAt, patternAt, patternsAhead, aheadOf, patternsBehind, Fixed, PairTold}
 use Rattle.csgp.specs.Stretch.{indexBits, IsStretch}
 use Rattle.csgp.specs.Stream.{samplesBehind, Ahead, firstRun, Runs}
 use Rattle.csgp.specs.declared.layout.CsgpLayout.{CsgpLayout}
@@ -18,7 +18,7 @@ use Rattle.csgp.specs.declared.layout.PatternPair.{PatternPair}
 use Rattle.csgp.specs.declared.stretch.Stretch.{Stretch}
 use Rattle.csgp.specs.declared.stream.RunCursor.{RunCursor}
 use Rattle.csgp.proofs.Widths.{widths}
-use Rattle.csgp.proofs.Check.{next-fits}
+use Rattle.csgp.proofs.Check.{csgp-ahead, next-fits}
 use Rattle.csgp.proofs.Patterns.{indices-length, indices-at, Step, pattern-end, pattern-step}
 
 samples-all : (ps : List Pattern) → samplesBehind ps 0 ≡ samplesOf ps
@@ -45,8 +45,9 @@ module _ (s : List ℕ) where
       let z = pattern-end s (c .here .pair) (c .here .indices) (ap (λ (m : ℕ). patternsAhead m s (c .here .pair) (c .here .indices)) (sym e) ∙ a .ahead) in
       a .samples ∙ rw z refl
 
-  pub walk-first : (l : CsgpLayout) {ps : List Pattern} → aheadOf s (allPatterns l) ≡ given ps → Ahead s (firstRun l) (samplesOf ps)
-  walk-first l {ps} a = record { patterns = ps; ahead = a; samples = sym (samples-all ps) }
+  -- at the start all samples are to come
+  pub walk-first : (l : CsgpLayout) → Fixed s l → {ps : List Pattern} → csgp s ≡ given ps → Ahead s (firstRun l) (samplesOf ps)
+  walk-first l f {ps} e = record { patterns = ps; ahead = sym (csgp-ahead s l f) ∙ e; samples = sym (samples-all ps) }
 
   module _ (here : PatternsAt) (k : ℕ) {xs : List ℕ} (a : Ahead s (record { here = here; sample = k }) xs) (h : 0 < here .left) where
     step : Step s (here .left - 1) (here .pair) (here .indices) (a .patterns)

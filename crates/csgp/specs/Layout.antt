@@ -1,6 +1,6 @@
 -- What a check of a csgp payload finds: its fixed fields, the two places of its bit stream, and that all of its patterns are there.
-use Prim.Native.Nat.{ℕ, zero, suc, _+_, _-_, _*_, _≤_, _<_}
 use mathlib.Core.Path.{_≡_}
+use Prim.Native.Nat.{ℕ, zero, suc, _+_, _-_, _*_, _≤_, _<_}
 use mathlib.Core.List.{List, [], _∷_}
 use lib.ListN.{length}
 use Rattle.fields.specs.Answer.{Answer, given, refused, choose, andThen, inputLimit}

@@ -1,6 +1,6 @@
 -- A stretch of samples of one index.
-use Prim.Native.Nat.{ℕ, _+_, _*_, _≤_, _<_}
 use mathlib.Core.Path.{_≡_}
+use Prim.Native.Nat.{ℕ, _+_, _*_, _≤_, _<_}
 use mathlib.Core.List.{List}
 use Rattle.fields.specs.Number.{bitsAt}
 use Rattle.csgp.specs.declared.stretch.Stretch.{Stretch}

@@ -7,10 +7,13 @@ ghost use Rattle.fields.specs.Answer.{given};
 ghost use Rattle.rows.specs.Row.{Row, recordsIn};
 ghost use Rattle.csgp.specs.Layout.{Laid};
 ghost use Rattle.csgp.specs.Replay.{rowsFor, filledRows};
-
 use crate::layout::CsgpLayout;
-use crate::replay::{Entered, Tail, enter_run};
-use crate::stream::{NextRun, first_run, next_run};
+use crate::replay::Entered;
+use crate::replay::Tail;
+use crate::replay::enter_run;
+use crate::stream::NextRun;
+use crate::stream::first_run;
+use crate::stream::next_run;
 use crate::stretch::Stretch;
 
 // Writes a row at record number `at`.
@@ -23,13 +26,9 @@ fn put_row(rows: &mut [u32], at: usize, count: u32, index: u32)
 }
 
 // Writes the rows from the front, where there are records enough. A run that joins the last row writes it anew.
-pub fn fill(s: &[u8], layout: CsgpLayout, rows: &mut [u32])
-    requires {
-        ⌜ (Laid (now s) layout) × ((out : List Row) × (rowsFor (now s) (recordsIn (now rows)) ≡ given out)) ⌝
-    }
-    ensures {
-        λ r. ⌜ now (rows .exit) ≡ filledRows (rowsFor (now (s .entry)) (recordsIn (now (rows .entry)))) (now (rows .entry)) ⌝
-    }
+pub(crate) fn fill(s: &[u8], layout: CsgpLayout, rows: &mut [u32])
+    requires { ⌜ (Laid (now s) layout) × ((out : List Row) × (rowsFor (now s) (recordsIn (now rows)) ≡ given out)) ⌝ }
+    ensures { λ r. ⌜ now (rows .exit) ≡ filledRows (rowsFor (now (s .entry)) (recordsIn (now (rows .entry)))) (now (rows .entry)) ⌝ }
 {
     let room = rows.len() / 2;
     let mut tail = Tail {

@@ -4,11 +4,12 @@ ghost use Prim.Native.Nat.{_+_, _*_, _/_, _%_, _≤_, _<_};
 ghost use lib.Dec.{eqb};
 ghost use lib.ListN.{length};
 ghost use Rattle.fields.specs.Answer.{choose, inputLimit};
-ghost use Rattle.fields.specs.Number.{beAt, bitsAt};
+ghost use Rattle.fields.specs.Number.{beAt};
 ghost use Rattle.csgp.specs.Csgp.{widthOf, countPlace, lengthWidth, countWidth, indexPlace, bitCount};
 ghost use Rattle.csgp.specs.Layout.{Fixed, FixedTold, PairTold, PairsTold, PatternsTold, LayoutTold, allPatterns, patternsBehind};
-
-use fields::{read_bits, read_u32, read_u8};
+use fields::read_bits;
+use fields::read_u8;
+use fields::read_u32;
 
 pub struct CsgpLayout {
     pub grouping_type: u32,
@@ -80,9 +81,7 @@ fn parameter(s: &[u8], flags: u32) -> u32
 
 // The fixed fields, where their bytes are there.
 fn layout_of(s: &[u8], flags: u32, place: usize) -> CsgpLayout
-    requires {
-        ⌜ (flags ≡ beAt 1 (now s) 3) × (place ≡ countPlace (now s)) × (place + 4 ≤ length (now s)) × (length (now s) ≤ inputLimit) ⌝
-    }
+    requires { ⌜ (flags ≡ beAt 1 (now s) 3) × (place ≡ countPlace (now s)) × (place + 4 ≤ length (now s)) × (length (now s) ≤ inputLimit) ⌝ }
     ensures { λ r. ⌜ Fixed (now (s .entry)) r ⌝ }
 {
     let pattern_count = read_u32(s, place);
@@ -139,10 +138,8 @@ fn check_pairs(s: &[u8], layout: CsgpLayout) -> Check
 }
 
 // The pair at a bit place.
-pub fn pair_at(s: &[u8], layout: CsgpLayout, at: usize) -> PatternPair
-    requires {
-        ⌜ (Fixed (now s) layout) × (at + lengthWidth (now s) + countWidth (now s) ≤ bitCount (now s)) ⌝
-    }
+pub(crate) fn pair_at(s: &[u8], layout: CsgpLayout, at: usize) -> PatternPair
+    requires { ⌜ (Fixed (now s) layout) × (at + lengthWidth (now s) + countWidth (now s) ≤ bitCount (now s)) ⌝ }
     ensures { λ r. ⌜ PairTold (now (s .entry)) at r ⌝ }
 {
     PatternPair {
@@ -152,7 +149,7 @@ pub fn pair_at(s: &[u8], layout: CsgpLayout, at: usize) -> PatternPair
 }
 
 // All patterns of a payload.
-pub fn first_pattern(layout: CsgpLayout) -> PatternsAt
+pub(crate) fn first_pattern(layout: CsgpLayout) -> PatternsAt
     ensures { λ r. ⌜ r ≡ allPatterns layout ⌝ }
 {
     PatternsAt {
@@ -163,13 +160,11 @@ pub fn first_pattern(layout: CsgpLayout) -> PatternsAt
 }
 
 // The patterns behind the first, which has `length` indices.
-pub fn next_pattern(layout: CsgpLayout, here: PatternsAt, length: u32) -> PatternsAt
-    requires {
-        ⌜
-            (0 < here .left) × (here .pair + layout .«length_width» + layout .«count_width» ≤ 18446744073709551615)
-                × (here .indices + layout .«index_width» * length ≤ 18446744073709551615)
-        ⌝
-    }
+pub(crate) fn next_pattern(layout: CsgpLayout, here: PatternsAt, length: u32) -> PatternsAt
+    requires { ⌜
+        (0 < here .left) × (here .pair + layout .«length_width» + layout .«count_width» ≤ 18446744073709551615)
+        × (here .indices + layout .«index_width» * length ≤ 18446744073709551615)
+        ⌝ }
     ensures { λ r. ⌜ r ≡ patternsBehind layout here length ⌝ }
 {
     PatternsAt {

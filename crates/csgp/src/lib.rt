@@ -1,24 +1,24 @@
 // The compact sample-to-group atom csgp (document 01, part 4).
-pub mod fill;
+mod fill;
 pub mod layout;
-pub mod replay;
+mod replay;
 pub mod stream;
-pub mod stretch;
+mod stretch;
 
 ghost use mathlib.Core.Path.{_≡_};
 ghost use Rattle.rows.specs.Row.{recordsIn};
 ghost use Rattle.rows.specs.Found.{Parses};
 ghost use Rattle.csgp.specs.Csgp.{parseCsgp};
-
-use layout::{ReadLayout, csgp_layout};
-use replay::{Measured, measure};
-use rows::{ParsedTable, SampleToGroup};
+use layout::ReadLayout;
+use layout::csgp_layout;
+use replay::Measured;
+use replay::measure;
+use rows::ParsedTable;
+use rows::SampleToGroup;
 
 // Reads a csgp payload and writes the rows of its samples in front of the lent run. Nothing is written on refusal.
 pub fn parse_csgp(s: &[u8], rows: &mut [u32]) -> ParsedTable
-    ensures {
-        λ r. ⌜ Parses (parseCsgp (now (s .entry)) (recordsIn (now (rows .entry)))) (now (rows .entry)) (now (rows .exit)) r ⌝
-    }
+    ensures { λ r. ⌜ Parses (parseCsgp (now (s .entry)) (recordsIn (now (rows .entry)))) (now (rows .entry)) (now (rows .exit)) r ⌝ }
 {
     let layout = match csgp_layout(s) {
         ReadLayout::Layout(layout) => layout,

@@ -5,9 +5,12 @@ ghost use lib.ListN.{length};
 ghost use Rattle.fields.specs.Answer.{given, andThen};
 ghost use Rattle.csgp.specs.Layout.{Laid};
 ghost use Rattle.csgp.specs.Replay.{enterRun, enteredOf, rowsFor, measuredOf};
-
-use crate::layout::{CsgpLayout, first_pattern, next_pattern, pair_at};
-use crate::stretch::{Stretch, stretch_at};
+use crate::layout::CsgpLayout;
+use crate::layout::first_pattern;
+use crate::layout::next_pattern;
+use crate::layout::pair_at;
+use crate::stretch::Stretch;
+use crate::stretch::stretch_at;
 
 // The rows so far: their number, and the last one's count and index.
 pub struct Tail {
@@ -30,7 +33,7 @@ pub enum Measured {
 }
 
 // Samples of one index join the last row, where it has that index, or begin a new one.
-pub fn enter_run(tail: Tail, room: usize, run: Stretch) -> Entered
+pub(crate) fn enter_run(tail: Tail, room: usize, run: Stretch) -> Entered
     ensures { λ r. ⌜ enteredOf r ≡ enterRun room tail (run .count) (run .index) ⌝ }
 {
     if 0 < tail.rows {
@@ -56,7 +59,7 @@ pub fn enter_run(tail: Tail, room: usize, run: Stretch) -> Entered
 }
 
 // How many rows the samples fill, or the refusal of the first sample that cannot be entered.
-pub fn measure(s: &[u8], layout: CsgpLayout, room: usize) -> Measured
+pub(crate) fn measure(s: &[u8], layout: CsgpLayout, room: usize) -> Measured
     requires { ⌜ Laid (now s) layout ⌝ }
     ensures { λ r. ⌜ measuredOf r ≡ andThen (rowsFor (now (s .entry)) room) (λ rows. given (length rows)) ⌝ }
 {
@@ -71,7 +74,14 @@ pub fn measure(s: &[u8], layout: CsgpLayout, room: usize) -> Measured
         let pair = pair_at(s, layout, here.pair);
         let mut k: u32 = 0;
         while k < pair.count {
-            let run = stretch_at(s, layout.index_width, here.indices, pair.length, k, pair.count);
+            let run = stretch_at(
+                s,
+                layout.index_width,
+                here.indices,
+                pair.length,
+                k,
+                pair.count,
+            );
             match enter_run(tail, room, run) {
                 Entered::Next(next) => tail = next,
                 Entered::Over => {

@@ -4,8 +4,11 @@ ghost use Prim.Native.Nat.{ℕ};
 ghost use mathlib.Core.List.{List};
 ghost use Rattle.csgp.specs.Layout.{Fixed};
 ghost use Rattle.csgp.specs.Stream.{Ahead, NextTold, firstRun};
-
-use crate::layout::{CsgpLayout, PatternsAt, first_pattern, next_pattern, pair_at};
+use crate::layout::CsgpLayout;
+use crate::layout::PatternsAt;
+use crate::layout::first_pattern;
+use crate::layout::next_pattern;
+use crate::layout::pair_at;
 use crate::stretch::stretch_at;
 
 // The patterns ahead, and the samples of the first of them that are passed.
@@ -39,7 +42,14 @@ pub fn next_run(s: &[u8], layout: CsgpLayout, cursor: RunCursor) -> NextRun
     while 0 < here.left {
         let pair = pair_at(s, layout, here.pair);
         if k < pair.count {
-            let run = stretch_at(s, layout.index_width, here.indices, pair.length, k, pair.count);
+            let run = stretch_at(
+                s,
+                layout.index_width,
+                here.indices,
+                pair.length,
+                k,
+                pair.count,
+            );
             return NextRun::Run(
                 run.count,
                 run.index,

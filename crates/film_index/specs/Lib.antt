@@ -1,3 +1,5 @@
 pub mod Status
 pub mod Atoms
+pub mod Descriptions
+pub mod Fragments
 pub mod Tables

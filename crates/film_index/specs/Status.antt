@@ -12,11 +12,11 @@ statusOf none = 255
 statusOf (refused n) = n
 
 -- the numbers of a value stored from place 0 on; every other number stays
-abbrev pub written : {A : Type 0} → (A → List ℕ) → Answer A → List ℕ → List ℕ
+abbrev pub written : {A N : Type 0} → (A → List N) → Answer A → List N → List N
 written numbers (given a) out = sets out 0 (numbers a)
 written numbers none out = out
 written numbers (refused n) out = out
 
-pub record Returns {A : Type 0} (told : Answer A) (numbers : A → List ℕ) (before after : List ℕ) (r : ℕ) : Type 0 where
+pub record Returns {A N : Type 0} (told : Answer A) (numbers : A → List N) (before after : List N) (r : ℕ) : Type 0 where
   pub status : r ≡ statusOf told
   pub out : after ≡ written numbers told before

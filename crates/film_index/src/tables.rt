@@ -6,7 +6,6 @@ ghost use Rattle.sbgp.specs.Sbgp.{parseSbgp};
 ghost use Rattle.csgp.specs.Csgp.{parseCsgp};
 ghost use Rattle.film_index.specs.Status.{Returns};
 ghost use Rattle.film_index.specs.Tables.{Fills, headNumbers, oneNumber};
-
 use rows::Covered;
 use rows::Found;
 use rows::ParsedTable;
@@ -30,9 +29,7 @@ fn put_head(parsed: ParsedTable, out: &mut [u64; 3]) -> u32
 // out: type, parameter, row count. The rows stand in front of the lent run.
 #[no_mangle]
 pub extern "C" fn film_parse_sbgp(s: &[u8], rows: &mut [u32], out: &mut [u64; 3]) -> u32
-    ensures {
-        λ r. ⌜ Fills (parseSbgp (now (s .entry)) (recordsIn (now (rows .entry)))) (now (rows .entry)) (now (rows .exit)) (now (out .entry)) (now (out .exit)) r ⌝
-    }
+    ensures { λ r. ⌜ Fills (parseSbgp (now (s .entry)) (recordsIn (now (rows .entry)))) (now (rows .entry)) (now (rows .exit)) (now (out .entry)) (now (out .exit)) r ⌝ }
 {
     put_head(sbgp::parse_sbgp(s, rows), out)
 }
@@ -40,9 +37,7 @@ pub extern "C" fn film_parse_sbgp(s: &[u8], rows: &mut [u32], out: &mut [u64; 3]
 // The same for a csgp payload.
 #[no_mangle]
 pub extern "C" fn film_parse_csgp(s: &[u8], rows: &mut [u32], out: &mut [u64; 3]) -> u32
-    ensures {
-        λ r. ⌜ Fills (parseCsgp (now (s .entry)) (recordsIn (now (rows .entry)))) (now (rows .entry)) (now (rows .exit)) (now (out .entry)) (now (out .exit)) r ⌝
-    }
+    ensures { λ r. ⌜ Fills (parseCsgp (now (s .entry)) (recordsIn (now (rows .entry)))) (now (rows .entry)) (now (rows .exit)) (now (out .entry)) (now (out .exit)) r ⌝ }
 {
     put_head(csgp::parse_csgp(s, rows), out)
 }
@@ -50,9 +45,7 @@ pub extern "C" fn film_parse_csgp(s: &[u8], rows: &mut [u32], out: &mut [u64; 3]
 // out: the index of the row that covers the sample (counted from 0), 0 past the end.
 #[no_mangle]
 pub extern "C" fn film_group_index_for_sample(rows: &[u32], sample: u32, out: &mut [u64; 1]) -> u32
-    ensures {
-        λ r. ⌜ Returns (lookup (now (rows .entry)) sample) oneNumber (now (out .entry)) (now (out .exit)) r ⌝
-    }
+    ensures { λ r. ⌜ Returns (lookup (now (rows .entry)) sample) oneNumber (now (out .entry)) (now (out .exit)) r ⌝ }
 {
     let found = rows::group_index_for_sample(rows, SampleNumber(sample));
     match found {
@@ -67,9 +60,7 @@ pub extern "C" fn film_group_index_for_sample(rows: &[u32], sample: u32, out: &m
 // out: the samples that the rows cover.
 #[no_mangle]
 pub extern "C" fn film_covered_samples(rows: &[u32], out: &mut [u64; 1]) -> u32
-    ensures {
-        λ r. ⌜ Returns (total (now (rows .entry))) oneNumber (now (out .entry)) (now (out .exit)) r ⌝
-    }
+    ensures { λ r. ⌜ Returns (total (now (rows .entry))) oneNumber (now (out .entry)) (now (out .exit)) r ⌝ }
 {
     let covered = rows::covered_samples(rows);
     match covered {

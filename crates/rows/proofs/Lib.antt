@@ -1,3 +1,4 @@
+pub mod Front
 pub mod Replay
 pub mod Rows
 pub mod Samples

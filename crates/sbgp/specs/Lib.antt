@@ -1,2 +1,3 @@
 pub mod Sbgp
 pub mod Layout
+pub mod Stream

@@ -7,6 +7,7 @@ ghost use Rattle.rows.specs.Row.{recordsIn, flat};
 ghost use Rattle.rows.specs.Found.{Parses};
 ghost use Rattle.sbgp.specs.Sbgp.{readRows, parseSbgp};
 ghost use Rattle.sbgp.specs.Layout.{Lays, Counted};
+ghost use Rattle.sbgp.specs.Stream.{NextTold, firstRow};
 use rows::ParsedTable;
 use rows::SampleToGroup;
 
@@ -103,4 +104,45 @@ pub fn parse_sbgp(s: &[u8], rows: &mut [u32]) -> ParsedTable
         }
         Layout::Refused(n) => ParsedTable::Refused(n),
     }
+}
+
+// The rows that are still ahead: the place of the first, and how many.
+pub struct RowCursor {
+    pub at: usize,
+    pub left: u32,
+}
+
+pub enum NextRow {
+    // sample count, description index, and the rows behind
+    Row(u32, u32, RowCursor),
+    End,
+}
+
+pub fn first_row(layout: SbgpLayout) -> RowCursor
+    ensures { λ r. ⌜ r ≡ firstRow layout ⌝ }
+{
+    RowCursor {
+        at: layout.first,
+        left: layout.entry_count,
+    }
+}
+
+// The next row of a payload, straight from its bytes: the samples as a stream of runs, without lent rows.
+pub fn next_row(s: &[u8], cursor: RowCursor) -> NextRow
+    requires { ⌜ cursor .at + 8 * cursor .left ≤ length (now s) ⌝ }
+    ensures { λ r. ⌜ NextTold (now (s .entry)) cursor r ⌝ }
+{
+    let at = cursor.at;
+    let left = cursor.left;
+    if left == 0 {
+        return NextRow::End;
+    }
+    NextRow::Row(
+        fields::read_u32(s, at),
+        fields::read_u32(s, at + 4),
+        RowCursor {
+            at: at + 8,
+            left: left - 1,
+        },
+    )
 }

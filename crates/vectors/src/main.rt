@@ -1,5 +1,6 @@
 // Replays the stored answers of the Rust (data/; docs/VECTORS.md says how they were made) and tells how many differ.
 mod atoms;
+mod descriptions;
 mod hex;
 mod numbers;
 mod record;
@@ -61,5 +62,6 @@ fn replay(name: &[u8]) {
 fn main() {
     replay(b"atoms");
     replay(b"tables");
+    replay(b"descriptions");
     replay(b"document");
 }

@@ -2,8 +2,8 @@
 // status (1), count of numbers (1), numbers (8 each).
 ghost use Prim.Native.Nat.{_+_, _*_, _≤_, _<_};
 ghost use lib.ListN.{length};
-
 use crate::atoms;
+use crate::descriptions;
 use crate::numbers::DIFFERS;
 use crate::tables;
 
@@ -60,6 +60,25 @@ fn run(record: &[u8], arguments: usize, input: &[u8], numbers: &[u8]) -> u32
         6 => tables::csgp(input, a, numbers),
         7 => tables::lookup(input, a, numbers),
         8 => tables::covered(input, numbers),
+        _ => described(record[0], input, a, numbers),
+    }
+}
+
+// The entries of descriptions.
+fn described(entry: u8, input: &[u8], a: u64, numbers: &[u8]) -> u32 {
+    match entry {
+        9 => descriptions::sgpd(input, numbers),
+        10 => descriptions::entry(input, a, numbers),
+        11 => descriptions::roll(input, numbers),
+        12 => descriptions::prol(input, numbers),
+        13 => descriptions::rap(input, numbers),
+        14 => descriptions::tele(input, numbers),
+        15 => descriptions::sap(input, numbers),
+        16 => descriptions::rash(input, numbers),
+        17 => descriptions::point(input, a, numbers),
+        18 => descriptions::alst(input, numbers),
+        19 => descriptions::offset(input, a, numbers),
+        20 => descriptions::piece(input, a, numbers),
         _ => DIFFERS,
     }
 }

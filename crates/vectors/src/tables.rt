@@ -1,7 +1,6 @@
 // Sample tables and lookups. A run of rows has at most 128 numbers here.
 ghost use Prim.Native.Nat.{_≤_, _*_};
 ghost use lib.ListN.{length};
-
 use crate::numbers;
 use crate::numbers::DIFFERS;
 
@@ -93,7 +92,11 @@ fn lookup_in(s: &[u8], rows: &mut [u32], sample: u64, expected: &[u8]) -> u32
 {
     load(s, rows);
     let mut out = [0u64; 1];
-    let status = film_index::tables::film_group_index_for_sample(rows, (sample % 4294967296) as u32, &mut out);
+    let status = film_index::tables::film_group_index_for_sample(
+        rows,
+        (sample % 4294967296) as u32,
+        &mut out,
+    );
     numbers::checked(status, &[out[0], 0, 0, 0, 0, 0], 1, expected)
 }
 

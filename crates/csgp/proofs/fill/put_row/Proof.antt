@@ -1,44 +1,33 @@
 use native.Mathlib.Omega.{arith}
-use lib.ListN.{length-set}
 use borrow.Author.Needs.{needs}
+use lib.ListN.{length-set}
 use Rattle.csgp.proofs.fill.put_row.Statement.{statement}
 use Rattle.csgp.proofs.fill.put_row.Tie as tie
-use Rattle.csgp.proofs.fill.put_row.Reads as reads
-use Rattle.csgp.proofs.fill.put_row.Lts as lts
 
--- src/fill.rt:21:10
 mul-rows : tie.Need-mul-rows
 mul-rows c = search needs
 
--- src/fill.rt:21:5
 mul-rows-2 : tie.Need-mul-rows-2
 mul-rows-2 c = search needs
 
--- src/fill.rt:21:5
 slice-write-rows : tie.Need-slice-write-rows
 slice-write-rows c = search needs
 
--- src/fill.rt:22:10
 mul-rows-3 : tie.Need-mul-rows-3
 mul-rows-3 c = search needs
 
--- src/fill.rt:22:10
 add-rows : tie.Need-add-rows
 add-rows c = search needs
 
--- src/fill.rt:22:5
 mul-rows-4 : tie.Need-mul-rows-4
 mul-rows-4 c = search needs
 
--- src/fill.rt:22:5
 slice-write-rows-2 : tie.Need-slice-write-rows-2
 slice-write-rows-2 c = simp length-set (omega arith)
 
--- src/fill.rt:17:1
 same-length : tie.Need-same-length
 same-length c = search needs
 
--- src/fill.rt:17:1
 returns : tie.Need-returns
 returns c = search needs
 

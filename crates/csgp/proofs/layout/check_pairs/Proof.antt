@@ -1,14 +1,13 @@
-use mathlib.Core.Path.{_≡_, sym, _∙_}
-use Prim.Native.Nat.{_≤_, _<_, _+_, _-_, _*_, _%_}
+use mathlib.Core.Path.{_≡_, _∙_}
+use Prim.Native.Nat.{_+_, _-_, _%_}
 use native.Mathlib.Omega.{arith}
-use lib.ListN.{length}
 use borrow.Author.Tests.{lt-ltb, le-ltb}
+use borrow.Author.Needs.{needs}
 use lib.Dec.{ltb}
 use Rattle.fields.specs.Answer.{refused, choose}
 use Rattle.csgp.specs.Csgp.{streamPlace, patternCount, lengthWidth, countWidth, bitCount, readPairs}
 use Rattle.csgp.proofs.Widths.{widths}
 use Rattle.csgp.proofs.Patterns.{pairs-cut}
-use borrow.Author.Needs.{needs}
 use Rattle.csgp.proofs.layout.check_pairs.Statement.{statement}
 use Rattle.csgp.proofs.layout.check_pairs.Tie as tie
 use Rattle.csgp.proofs.layout.check_pairs.Reads as reads
@@ -24,42 +23,33 @@ cut c =
     let f = c .before .before .pre in
     pairs-cut s (patternCount s) (streamPlace s) (omega (arith, widths s)) (omega (arith, f .whole)) (omega (arith, f .indicesPlace, c .if1 .left))
 
--- src/layout.rt:123:16
 mul-bits : tie.Need-mul-bits
 mul-bits c = search needs
 
--- src/layout.rt:125:9
 returns : tie.Need-returns
 returns c = search needs
 
--- src/layout.rt:127:17
 sub-left : tie.Need-sub-left
 sub-left c = search needs
 
--- src/layout.rt:127:42
 add-left : tie.Need-add-left
 add-left c = omega (arith, widths (c .before .before .before .before .args .s .now))
 
--- src/layout.rt:127:41
 cast-left : tie.Need-cast-left
 cast-left c = search needs
 
--- src/layout.rt:127:16
 rem-left : tie.Need-rem-left
 rem-left c = omega (arith, widths (c .before .before .before .before .args .s .now))
 
--- src/layout.rt:128:15
 cast-if2 : tie.Need-cast-if2
 cast-if2 c = search needs
 
--- src/layout.rt:129:9
 returns-2 : tie.Need-returns-2
 returns-2 c =
     let f = c .before .before .before .before .before .before .pre in
     let h = rw (f .pairsPlace, f .lengthBits, f .countBits) at (c .if2 .taken) in
     cut (c .before .before .before .before) ∙ simp (lt-ltb _ _ h)
 
--- src/layout.rt:119:1
 returns-3 : tie.Need-returns-3
 returns-3 c =
     let f = c .before .before .before .before .before .before .pre in

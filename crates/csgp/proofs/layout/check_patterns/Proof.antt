@@ -1,23 +1,12 @@
 use mathlib.Core.Path.{_≡_, ap, sym, _∙_}
-use Rattle.csgp.proofs.Check.{Checked, checked-all, checked-end, checked-pair, checked-empty, checked-cut, checked-next, next-fits}
-use Rattle.csgp.specs.declared.layout.PatternsAt.{PatternsAt}
-use Rattle.csgp.proofs.Widths.{widths, fields-small}
-use lib.ListN.{length}
-use Rattle.fields.specs.Answer.{inputLimit}
-use mathlib.Core.Path.{_≡_, sym, _∙_}
-use Prim.Native.Nat.{_≤_, _<_, _+_, _-_, _*_}
+use Prim.Native.Nat.{_≤_, _-_}
 use native.Mathlib.Omega.{arith}
 use borrow.Author.Needs.{needs}
-use Rattle.csgp.specs.Csgp.{bitCount}
-use Rattle.csgp.proofs.Widths.{widths}
-use Rattle.csgp.proofs.Check.{Checked, checked-all, checked-end, checked-pair, checked-empty, checked-cut, checked-next}
+use Rattle.csgp.specs.declared.layout.PatternsAt.{PatternsAt}
+use Rattle.csgp.proofs.Check.{Checked, checked-all, checked-end, checked-pair, checked-empty, checked-cut, checked-next, next-fits}
+use Rattle.csgp.proofs.Widths.{widths, fields-small}
 use Rattle.csgp.proofs.layout.check_patterns.Statement.{statement}
 use Rattle.csgp.proofs.layout.check_patterns.Tie as tie
-use Rattle.csgp.proofs.layout.check_patterns.Reads as reads
-use Rattle.csgp.proofs.layout.check_patterns.Lts as lts
-use Rattle.csgp.proofs.layout.first_pattern.Reads as first-pattern-reads
-use Rattle.csgp.proofs.layout.next_pattern.Reads as next-pattern-reads
-use Rattle.csgp.proofs.layout.pair_at.Reads as pair-at-reads
 
 abbrev Inv-loop : tie.InvT-loop
 Inv-loop s layout bits here₀ here = Checked s here
@@ -25,45 +14,36 @@ Inv-loop s layout bits here₀ here = Checked s here
 abbrev μ-loop : tie.MeasureT-loop
 μ-loop s layout bits here₀ here = here .left
 
--- src/layout.rt:187:16
 mul-bits : tie.Need-mul-bits Inv-loop μ-loop
 mul-bits c = search needs
 
--- src/layout.rt:188:9
 first-pattern-requires : tie.Need-first-pattern-requires Inv-loop μ-loop
 first-pattern-requires c κs = search needs
 
--- src/layout.rt:189:5
 loop-holds : tie.Need-loop-holds Inv-loop μ-loop
 loop-holds c =
     let f = c .before .before .pre .0 in
     rw (c .first-pattern .ensures) (checked-all _ _ f (c .before .before .pre .1))
 
--- src/layout.rt:190:13
 pair-at-requires : tie.Need-pair-at-requires Inv-loop μ-loop
 pair-at-requires c κs =
     let f = c .before .before .before .before .before .pre .0 in
     (f, checked-pair _ _ f (c .before .before .loop .here) (c .before .before .loop .inv) (c .if1 .taken))
 
--- src/layout.rt:192:13
 returns : tie.Need-returns Inv-loop μ-loop
 returns c =
     let f = c .before .before .before .before .before .before .before .before .pre .0 in
     checked-empty _ _ f (c .before .before .before .before .before .loop .here) (c .before .before .before .before .before .loop .inv) (c .before .before .before .if1 .taken) (sym (c .before .before .pair-at .ensures .patternLength) ∙ c .if2 .taken)
 
--- src/layout.rt:194:12
 sub-if3 : tie.Need-sub-if3 Inv-loop μ-loop
 sub-if3 c = search needs
 
--- src/layout.rt:194:35
 cast-if3 : tie.Need-cast-if3 Inv-loop μ-loop
 cast-if3 c = search needs
 
--- src/layout.rt:194:67
 cast-if3-2 : tie.Need-cast-if3-2 Inv-loop μ-loop
 cast-if3-2 c = search needs
 
--- src/layout.rt:194:34
 mul-if3 : tie.Need-mul-if3 Inv-loop μ-loop
 mul-if3 c =
     let w = widths (c .before .before .before .before .before .before .before .before .before .before .before .args .s .now) in
@@ -71,7 +51,6 @@ mul-if3 c =
     let h : c .before .before .before .before .before .before .before .before .before .before .before .args .layout .«index_width» ≤ 64 = omega (arith, w .index, f .indexBits) in
     omega (arith, fields-small (c .before .before .before .before .before .pair-at .result .length) (c .before .before .before .before .before .before .before .before .before .before .before .args .layout .«index_width») (omega arith) h)
 
--- src/layout.rt:195:13
 returns-2 : tie.Need-returns-2 Inv-loop μ-loop
 returns-2 c =
     let f = c .before .before .before .before .before .before .before .before .before .before .before .before .pre .0 in
@@ -79,7 +58,6 @@ returns-2 c =
     let h = rw (f .indexBits, p) at (c .if3 .taken) in
     checked-cut _ _ f (c .before .before .before .before .before .before .before .before .before .loop .here) (c .before .before .before .before .before .before .before .before .before .loop .inv) (c .before .before .before .before .before .before .before .if1 .taken) (λ z. c .before .before .before .before .if2 .left (p ∙ z)) (omega arith)
 
--- src/layout.rt:197:9
 next-pattern-requires : tie.Need-next-pattern-requires Inv-loop μ-loop
 next-pattern-requires c κs =
     let f = c .before .before .before .before .before .before .before .before .before .before .before .before .pre .0 in
@@ -87,13 +65,11 @@ next-pattern-requires c κs =
     let h = rw (f .indexBits) at (c .if3 .left) in
     next-fits _ _ f (c .before .before .before .before .before .before .before .before .before .loop .here) (c .before .before .before .before .before .before .pair-at .result .length) (c .before .before .before .before .before .before .before .if1 .taken) (checked-pair _ _ f (c .before .before .before .before .before .before .before .before .before .loop .here) (c .before .before .before .before .before .before .before .before .before .loop .inv) (c .before .before .before .before .before .before .before .if1 .taken)) (omega arith)
 
--- src/layout.rt:189:5
 loop-less : tie.Need-loop-less Inv-loop μ-loop
 loop-less c =
     let e : c .next-pattern .result .left ≡ c .before .before .before .before .before .before .before .before .before .before .loop .here .left - 1 = ap (λ (x : PatternsAt). x .left) (c .next-pattern .ensures) in
     omega (arith, c .before .before .before .before .before .before .before .before .if1 .taken)
 
--- src/layout.rt:189:5
 loop-again : tie.Need-loop-again Inv-loop μ-loop
 loop-again c =
     let f = c .before .before .before .before .before .before .before .before .before .before .before .before .before .pre .0 in
@@ -101,7 +77,6 @@ loop-again c =
     let h = rw (f .indexBits, p) at (c .before .if3 .left) in
     rw (c .next-pattern .ensures, p) (checked-next _ _ f (c .before .before .before .before .before .before .before .before .before .before .loop .here) (c .before .before .before .before .before .before .before .before .before .before .loop .inv) (c .before .before .before .before .before .before .before .before .if1 .taken) (λ z. c .before .before .before .before .before .if2 .left (p ∙ z)) (omega arith))
 
--- src/layout.rt:183:1
 returns-3 : tie.Need-returns-3 Inv-loop μ-loop
 returns-3 c =
     let e : c .before .before .loop .here .left ≡ 0 = omega (arith, c .if1 .left) in

@@ -1,47 +1,32 @@
-use Rattle.csgp.proofs.Check.{csgp-all}
-use Rattle.csgp.specs.Layout.{FixedTold, PairsTold, PatternsTold, LayoutTold}
-use mathlib.Core.Path.{_≡_, sym, subst, _∙_}
-use Rattle.fields.specs.Answer.{andThen}
-use Rattle.csgp.specs.Csgp.{readPatterns, indexPlace}
+use mathlib.Core.Path.{subst, _∙_}
+use borrow.Author.Needs.{needs}
 use Rattle.csgp.specs.Layout.{FixedTold, PairsTold, PatternsTold}
 use Rattle.csgp.specs.declared.layout.ReadLayout.{ReadLayout}
 use Rattle.csgp.specs.declared.layout.Check.{Check}
-use borrow.Author.Needs.{needs}
+use Rattle.csgp.proofs.Check.{csgp-all}
 use Rattle.csgp.proofs.layout.csgp_layout.Statement.{statement}
 use Rattle.csgp.proofs.layout.csgp_layout.Tie as tie
-use Rattle.csgp.proofs.layout.csgp_layout.Reads as reads
-use Rattle.csgp.proofs.layout.csgp_layout.Lts as lts
-use Rattle.csgp.proofs.layout.check_pairs.Reads as check-pairs-reads
-use Rattle.csgp.proofs.layout.check_patterns.Reads as check-patterns-reads
-use Rattle.csgp.proofs.layout.fixed_fields.Reads as fixed-fields-reads
 
--- src/layout.rt:206:9
 fixed-fields-requires : tie.Need-fixed-fields-requires
 fixed-fields-requires c κs = search needs
 
--- src/layout.rt:207:28
 enum-known-read : tie.Need-enum-known-read
 enum-known-read c = search needs
 
--- src/layout.rt:208:9
 enum-told : tie.Need-enum-told
 enum-told c = search needs
 
--- src/layout.rt:208:9
 returns : tie.Need-returns
 returns c =
     let e = c .enum-told .given .1 in
     rw e (rw e at (c .before .before .fixed-fields .ensures))
 
--- src/layout.rt:210:32
 check-pairs-requires : tie.Need-check-pairs-requires
 check-pairs-requires c κs = subst (λ (r : ReadLayout). FixedTold (c .before .before .before .before .before .args .s .now) r) (c .before .read .given .1) (c .before .before .before .fixed-fields .ensures)
 
--- src/layout.rt:210:27
 enum-known-n : tie.Need-enum-known-n
 enum-known-n c = search needs
 
--- src/layout.rt:211:9
 returns-2 : tie.Need-returns-2
 returns-2 c =
     let s = c .before .before .before .before .before .before .before .before .before .args .s .now in
@@ -52,18 +37,15 @@ returns-2 c =
 enum-told-2 : tie.Need-enum-told-2
 enum-told-2 c = search needs
 
--- src/layout.rt:213:32
 check-patterns-requires : tie.Need-check-patterns-requires
 check-patterns-requires c κs =
     let s = c .before .before .before .before .before .before .before .before .args .s .now in
     let f = subst (λ (r : ReadLayout). FixedTold s r) (c .before .before .before .before .read .given .1) (c .before .before .before .before .before .before .fixed-fields .ensures) in
     (f, subst (λ (r : Check). PairsTold s r) (c .enum-told2 .given .1) (c .before .before .check-pairs .ensures))
 
--- src/layout.rt:213:27
 enum-known-n-2 : tie.Need-enum-known-n-2
 enum-known-n-2 c = search needs
 
--- src/layout.rt:214:9
 returns-3 : tie.Need-returns-3
 returns-3 c =
     let s = c .before .before .before .before .before .before .before .before .before .before .before .before .args .s .now in
@@ -73,7 +55,6 @@ returns-3 c =
 enum-told-3 : tie.Need-enum-told-3
 enum-told-3 c = search needs
 
--- src/layout.rt:203:1
 returns-4 : tie.Need-returns-4
 returns-4 c =
     let s = c .before .before .before .before .before .before .before .before .before .before .before .args .s .now in

@@ -3,25 +3,19 @@ use borrow.Author.Tests.{ne-eqb}
 use Rattle.csgp.specs.Csgp.{widthOf}
 use Rattle.csgp.proofs.layout.field_width.Statement.{statement}
 use Rattle.csgp.proofs.layout.field_width.Tie as tie
-use Rattle.csgp.proofs.layout.field_width.Reads as reads
-use Rattle.csgp.proofs.layout.field_width.Lts as lts
 
--- src/layout.rt:36:1
 returns : tie.Need-returns
 unfolding widthOf
 returns c = (simp (c .match .keys1), omega arith, omega arith)
 
--- src/layout.rt:36:1
 returns-2 : tie.Need-returns-2
 unfolding widthOf
 returns-2 c = (simp (c .match .keys2), omega arith, omega arith)
 
--- src/layout.rt:36:1
 returns-3 : tie.Need-returns-3
 unfolding widthOf
 returns-3 c = (simp (c .match .keys3), omega arith, omega arith)
 
--- src/layout.rt:36:1
 returns-4 : tie.Need-returns-4
 unfolding widthOf
 returns-4 c = (simp (ne-eqb _ _ (c .match .rest .0 .0 .1), ne-eqb _ _ (c .match .rest .0 .1), ne-eqb _ _ (c .match .rest .1)), omega arith, omega arith)

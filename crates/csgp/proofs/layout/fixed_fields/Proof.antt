@@ -1,42 +1,29 @@
-use mathlib.Core.Path.{_≡_, sym, _∙_}
+use mathlib.Core.Path.{_≡_}
 use Prim.Native.Nat.{_≤_, _<_, _+_}
-use native.Mathlib.Omega.{arith}
-use lib.ListN.{length}
 use borrow.Author.Tests.{lt-ltb, le-ltb}
-use Rattle.fields.specs.Number.{beAt}
-use Rattle.csgp.specs.Csgp.{countPlace, csgp}
 use borrow.Author.Needs.{needs}
+use lib.ListN.{length}
+use Rattle.csgp.specs.Csgp.{countPlace, csgp}
 use Rattle.csgp.proofs.layout.fixed_fields.Statement.{statement}
 use Rattle.csgp.proofs.layout.fixed_fields.Tie as tie
-use Rattle.csgp.proofs.layout.fixed_fields.Reads as reads
-use Rattle.csgp.proofs.layout.fixed_fields.Lts as lts
-use Rattle.csgp.proofs.layout.count_place.Reads as count-place-reads
-use Rattle.csgp.proofs.layout.layout_of.Reads as layout-of-reads
-use Rattle.fields.proofs.read_u8.Reads as read-u8-reads
 
--- src/layout.rt:96:9
 returns : tie.Need-returns
 unfolding csgp
 returns c = simp (lt-ltb _ _ (c .if1 .taken))
 
--- src/layout.rt:99:9
 returns-2 : tie.Need-returns-2
 unfolding csgp
 returns-2 c = simp (le-ltb _ _ (c .before .if1 .left), lt-ltb _ _ (c .if2 .taken))
 
--- src/layout.rt:101:17
 read-u8-requires : tie.Need-read-u8-requires
 read-u8-requires c κs = search needs
 
--- src/layout.rt:101:17
 cast-flags : tie.Need-cast-flags
 cast-flags c = search needs
 
--- src/layout.rt:102:9
 count-place-requires : tie.Need-count-place-requires
 count-place-requires c κs = search needs
 
--- src/layout.rt:104:9
 returns-3 : tie.Need-returns-3
 unfolding csgp
 returns-3 c =
@@ -45,11 +32,9 @@ returns-3 c =
     let h : length s < countPlace s = rw (← p) (c .if3 .taken) in
     simp (le-ltb _ _ (c .before .before .before .before .if1 .left), le-ltb _ _ (c .before .before .before .if2 .left), lt-ltb _ _ h)
 
--- src/layout.rt:106:18
 add-if4 : tie.Need-add-if4
 add-if4 c = search needs
 
--- src/layout.rt:107:9
 returns-4 : tie.Need-returns-4
 unfolding csgp
 returns-4 c =
@@ -59,13 +44,11 @@ returns-4 c =
     let k : length s < countPlace s + 4 = rw (← p) (c .if4 .taken) in
     simp (le-ltb _ _ (c .before .before .before .before .before .if1 .left), le-ltb _ _ (c .before .before .before .before .if2 .left), le-ltb _ _ h, lt-ltb _ _ k)
 
--- src/layout.rt:109:24
 layout-of-requires : tie.Need-layout-of-requires
 layout-of-requires c κs =
     let e = c .before .before .before .read-u8 .ensures .0 in
     (e, rw (← e) (c .before .before .count-place .ensures .0), c .if4 .left, c .before .before .before .before .before .if1 .left)
 
--- src/layout.rt:92:1
 returns-5 : tie.Need-returns-5
 returns-5 c = c .layout-of .ensures
 

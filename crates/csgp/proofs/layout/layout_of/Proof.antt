@@ -1,42 +1,29 @@
 use Prim.Native.Nat.{_≤_, _+_}
-use lib.ListN.{length}
-use mathlib.Core.Path.{_≡_, sym, _∙_}
 use native.Mathlib.Omega.{arith}
-use Rattle.csgp.proofs.Widths.{countPlace-bounds, fields-small}
 use borrow.Author.Needs.{needs}
+use lib.ListN.{length}
+use Rattle.csgp.proofs.Widths.{countPlace-bounds, fields-small}
 use Rattle.csgp.proofs.layout.layout_of.Statement.{statement}
 use Rattle.csgp.proofs.layout.layout_of.Tie as tie
-use Rattle.csgp.proofs.layout.layout_of.Reads as reads
-use Rattle.csgp.proofs.layout.layout_of.Lts as lts
-use Rattle.csgp.proofs.layout.field_width.Reads as field-width-reads
-use Rattle.csgp.proofs.layout.parameter.Reads as parameter-reads
-use Rattle.fields.proofs.read_u32.Reads as read-u32-reads
 
--- src/layout.rt:75:9
 read-u32-requires : tie.Need-read-u32-requires
 read-u32-requires c κs = search needs
 
--- src/layout.rt:76:9
 field-width-requires : tie.Need-field-width-requires
 field-width-requires c κs = search needs
 
--- src/layout.rt:77:9
 field-width-requires-2 : tie.Need-field-width-requires-2
 field-width-requires-2 c κs = search needs
 
--- src/layout.rt:78:22
 add-pairs : tie.Need-add-pairs
 add-pairs c = search needs
 
--- src/layout.rt:78:17
 mul-pairs : tie.Need-mul-pairs
 mul-pairs c = search needs
 
--- src/layout.rt:80:24
 read-u32-requires-2 : tie.Need-read-u32-requires-2
 read-u32-requires-2 c κs = omega (arith, countPlace-bounds (c .before .before .before .before .args .s .now))
 
--- src/layout.rt:81:34
 parameter-requires : tie.Need-parameter-requires
 parameter-requires c κs =
     let a = c .before .before .before .before .before .args in
@@ -44,35 +31,28 @@ parameter-requires c κs =
     let p = c .before .before .before .before .before .pre .1 in
     rw e (let h : a .place ≤ length (a .s .now) = omega arith in rw p at h)
 
--- src/layout.rt:83:22
 field-width-requires-3 : tie.Need-field-width-requires-3
 field-width-requires-3 c κs = search needs
 
--- src/layout.rt:87:27
 cast-t10 : tie.Need-cast-t10
 cast-t10 c = search needs
 
--- src/layout.rt:87:55
 add-t13 : tie.Need-add-t13
 add-t13 c = search needs
 
--- src/layout.rt:87:54
 cast-t14 : tie.Need-cast-t14
 cast-t14 c = search needs
 
--- src/layout.rt:87:26
 mul-t15 : tie.Need-mul-t15
 mul-t15 c =
     let h = fields-small (c .before .before .before .before .before .read-u32 .result) (c .before .before .before .before .field-width .result + c .before .before .before .field-width2 .result) (omega arith) (omega arith) in
     omega arith
 
--- src/layout.rt:87:18
 add-t16 : tie.Need-add-t16
 add-t16 c =
     let h = fields-small (c .before .before .before .before .before .read-u32 .result) (c .before .before .before .before .field-width .result + c .before .before .before .field-width2 .result) (omega arith) (omega arith) in
     omega arith
 
--- src/layout.rt:69:1
 returns : tie.Need-returns
 returns c =
     let pre = c .before .before .before .before .before .before .before .pre in

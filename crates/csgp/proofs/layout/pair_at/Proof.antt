@@ -1,31 +1,22 @@
-use mathlib.Core.Path.{_≡_, sym, _∙_}
-use Prim.Native.Nat.{_≤_, _<_, _+_, _-_, _*_, _%_}
+use Prim.Native.Nat.{_-_}
 use native.Mathlib.Omega.{arith}
-use Rattle.csgp.proofs.Widths.{widths}
 use borrow.Author.Needs.{needs}
+use Rattle.csgp.proofs.Widths.{widths}
 use Rattle.csgp.proofs.layout.pair_at.Statement.{statement}
 use Rattle.csgp.proofs.layout.pair_at.Tie as tie
-use Rattle.csgp.proofs.layout.pair_at.Reads as reads
-use Rattle.csgp.proofs.layout.pair_at.Lts as lts
-use Rattle.fields.proofs.read_bits.Reads as read-bits-reads
 
--- src/layout.rt:142:17
 read-bits-requires : tie.Need-read-bits-requires
 read-bits-requires c κs = omega (arith, widths (c .before .args .s .now))
 
--- src/layout.rt:143:34
 cast-read-bits : tie.Need-cast-read-bits
 cast-read-bits c = search needs
 
--- src/layout.rt:143:29
 add-read-bits : tie.Need-add-read-bits
 add-read-bits c = search needs
 
--- src/layout.rt:143:16
 read-bits-requires-2 : tie.Need-read-bits-requires-2
 read-bits-requires-2 c κs = omega (arith, widths (c .before .before .before .args .s .now))
 
--- src/layout.rt:135:1
 returns : tie.Need-returns
 returns c =
     let f = c .before .before .before .before .pre .0 in

@@ -1,22 +1,15 @@
-use native.Mathlib.Omega.{arith}
 use borrow.Author.Tests.{eq-eqb, ne-eqb}
 use Rattle.csgp.proofs.layout.parameter.Statement.{statement}
 use Rattle.csgp.proofs.layout.parameter.Tie as tie
-use Rattle.csgp.proofs.layout.parameter.Reads as reads
-use Rattle.csgp.proofs.layout.parameter.Lts as lts
-use Rattle.fields.proofs.read_u32.Reads as read-u32-reads
 
--- src/layout.rt:63:14
 read-u32-requires : tie.Need-read-u32-requires
 read-u32-requires c κs =
     let e = c .match .keys1 in
     simp (eq-eqb _ _ e) at (c .before .before .pre)
 
--- src/layout.rt:58:1
 returns : tie.Need-returns
 returns c = simp (eq-eqb _ _ (c .before .match .keys1), c .read-u32 .ensures .0)
 
--- src/layout.rt:58:1
 returns-2 : tie.Need-returns-2
 returns-2 c = simp (ne-eqb _ _ (c .match .rest .1))
 

@@ -1,11 +1,11 @@
-use mathlib.Core.Path.{_≡_, refl, sym, _∙_}
+use mathlib.Core.Path.{_≡_, sym, _∙_}
 use mathlib.Core.Logic.{⊎-elim}
 use Prim.Native.Nat.{_≤_, _<_, _+_}
 use native.Mathlib.Omega.{arith}
 use borrow.Author.Tests.{lt-ltb, le-ltb, le-leb, lt-leb, eq-eqb, ne-eqb}
+use borrow.Author.Needs.{needs}
 use Rattle.rows.specs.Pattern.{countLimit}
 use Rattle.csgp.specs.Replay.{begun, enterRun}
-use borrow.Author.Needs.{needs}
 use Rattle.csgp.proofs.replay.enter_run.Statement.{statement}
 use Rattle.csgp.proofs.replay.enter_run.Tie as tie
 use Rattle.csgp.proofs.replay.enter_run.Reads as reads
@@ -15,37 +15,30 @@ use Rattle.csgp.proofs.replay.enter_run.Lts as lts
 begins : (c : lts.Joined1 reads.Pre reads.Post) → (let a = c .before .before .args in enterRun (a .room) (a .tail) (a .run .count) (a .run .index) ≡ begun (a .room) (a .tail) (a .run .count) (a .run .index))
 begins c = ⊎-elim (λ w. simp (lt-ltb _ _ (w .0 .taken), ne-eqb _ _ (w .3 .left))) (λ w. simp (le-ltb _ _ (w .left))) (c .if1 .came)
 
--- src/replay.rt:38:16
 sub-if3 : tie.Need-sub-if3
 sub-if3 c = search needs
 
--- src/replay.rt:39:17
 returns : tie.Need-returns
 returns c =
     let a = c .before .before .before .before .before .before .before .before .args in
     let o : countLimit < a .tail .count + a .run .count = omega arith in
     simp (lt-ltb _ _ (c .before .before .before .before .before .before .if1 .taken), eq-eqb _ _ (c .before .before .before .if2 .taken), lt-ltb _ _ o)
 
--- src/replay.rt:43:24
 add-t6 : tie.Need-add-t6
 add-t6 c = search needs
 
--- src/replay.rt:41:13
 returns-2 : tie.Need-returns-2
 returns-2 c =
     let a = c .before .before .before .before .before .before .before .before .before .before .args in
     let o : a .tail .count + a .run .count ≤ countLimit = omega arith in
     simp (lt-ltb _ _ (c .before .before .before .before .before .before .before .before .if1 .taken), eq-eqb _ _ (c .before .before .before .before .before .if2 .taken), le-ltb _ _ o)
 
--- src/replay.rt:49:9
 returns-3 : tie.Need-returns-3
 returns-3 c = sym (begins (c .before .before) ∙ simp (le-leb _ _ (c .if4 .taken)))
 
--- src/replay.rt:52:15
 add-t9 : tie.Need-add-t9
 add-t9 c = search needs
 
--- src/replay.rt:33:1
 returns-4 : tie.Need-returns-4
 returns-4 c = sym (begins (c .before .before .before) ∙ simp (lt-leb _ _ (c .before .if4 .left)))
 

@@ -1,31 +1,21 @@
-use Rattle.csgp.specs.declared.replay.Entered.the-variants as entered
-use mathlib.Core.Logic.{_⊎_, inl, inr, ⊎-elim}
-use mathlib.Core.List.{List}
-use Prim.Native.Nat.{ℕ}
-use lib.ListN.{length}
-use Rattle.fields.specs.Answer.{Answer, given, refused, andThen}
-use Rattle.rows.specs.Row.{Row}
-use Rattle.rows.specs.Pattern.{countLimit}
-use Rattle.csgp.specs.Replay.{enterRun, enteredOf, rowsFor}
-use Rattle.csgp.specs.declared.replay.Entered.{Entered}
-use Rattle.csgp.specs.declared.replay.Tail.{Tail}
 use mathlib.Core.Path.{_≡_, refl, ap, sym, subst, _∙_}
-use Prim.Native.Nat.{_≤_, _<_, _+_, _-_}
+use mathlib.Core.Logic.{_⊎_, inl, inr, ⊎-elim}
+use Prim.Native.Nat.{ℕ, _<_, _+_, _-_}
 use native.Mathlib.Omega.{arith}
 use borrow.Author.Needs.{needs}
+use mathlib.Core.List.{List}
+use lib.ListN.{length}
+use Rattle.fields.specs.Answer.{Answer, given, refused}
+use Rattle.rows.specs.Row.{Row}
+use Rattle.csgp.specs.declared.replay.Entered.the-variants as entered
+use Rattle.csgp.specs.Replay.{enterRun, enteredOf, rowsFor}
+use Rattle.csgp.specs.declared.replay.Entered.{Entered}
 use Rattle.csgp.specs.declared.layout.PatternsAt.{PatternsAt}
-use Rattle.csgp.specs.Stream.{Ahead, Runs}
+use Rattle.csgp.specs.Stream.{Runs}
 use Rattle.csgp.proofs.Walk.{walk-step, walk-end, walk-next, walk-run, stretch-fits, behind-fits}
 use Rattle.csgp.proofs.Tails.{Replaying, replaying-first, replaying-end, replaying-at, rows-standing, replaying-refused, replaying-run}
 use Rattle.csgp.proofs.replay.measure.Statement.{statement}
 use Rattle.csgp.proofs.replay.measure.Tie as tie
-use Rattle.csgp.proofs.replay.measure.Reads as reads
-use Rattle.csgp.proofs.replay.measure.Lts as lts
-use Rattle.csgp.proofs.layout.first_pattern.Reads as first-pattern-reads
-use Rattle.csgp.proofs.layout.next_pattern.Reads as next-pattern-reads
-use Rattle.csgp.proofs.layout.pair_at.Reads as pair-at-reads
-use Rattle.csgp.proofs.replay.enter_run.Reads as enter-run-reads
-use Rattle.csgp.proofs.stretch.stretch_at.Reads as stretch-at-reads
 
 abbrev Inv-loop : tie.InvT-loop
 Inv-loop s layout room told₀ tail₀ here pair k₀ told tail k = Replaying s room (record { here = here; sample = k }) tail × (told ≡ 0)
@@ -75,80 +65,63 @@ done c =
     v)
     (c .if1 .came)
 
--- src/replay.rt:69:9
 first-pattern-requires : tie.Need-first-pattern-requires Inv-loop μ-loop Inv-replay μ-replay
 first-pattern-requires c κs = search needs
 
--- src/replay.rt:70:5
 replay-holds : tie.Need-replay-holds Inv-loop μ-loop Inv-replay μ-replay
 replay-holds c =
     let l = c .before .before .pre in
     (rw (c .first-pattern .ensures) (replaying-first _ _ _ (l .fixed) (l .patterns .1)), search needs)
 
--- src/replay.rt:71:13
 pair-at-requires : tie.Need-pair-at-requires Inv-loop μ-loop Inv-replay μ-replay
 pair-at-requires c κs = (c .before .before .before .before .before .pre .fixed, walk-step _ _ (c .before .before .replay .inv .0 .ahead) (c .if1 .taken) .pairFits)
 
--- src/replay.rt:73:9
 loop-holds : tie.Need-loop-holds Inv-loop μ-loop Inv-replay μ-replay
 loop-holds c = c .before .before .before .replay .inv
 
--- src/replay.rt:74:17
 stretch-at-requires : tie.Need-stretch-at-requires Inv-loop μ-loop Inv-replay μ-replay
 stretch-at-requires c κs = stretch-fits _ (c .before .before .before .before .before .before .replay .here) (c .before .before .loop .k) (c .before .before .loop .inv .0 .ahead) (c .before .before .before .before .if1 .taken) _ (c .before .before .before .before .before .before .before .before .before .pre .fixed) _ (c .before .before .before .pair-at .ensures) (c .if2 .taken)
 
--- src/replay.rt:75:19
 enter-run-requires : tie.Need-enter-run-requires Inv-loop μ-loop Inv-replay μ-replay
 enter-run-requires c κs = search needs
 
--- src/replay.rt:76:31
 enum-known-next : tie.Need-enum-known-next Inv-loop μ-loop Inv-replay μ-replay
 enum-known-next c = search needs
 
--- src/replay.rt:78:21
 enum-told : tie.Need-enum-told Inv-loop μ-loop Inv-replay μ-replay
 enum-told c = search needs
 
--- src/replay.rt:82:21
 enum-told-2 : tie.Need-enum-told-2 Inv-loop μ-loop Inv-replay μ-replay
 enum-told-2 c = search needs
 
--- src/replay.rt:86:17
 add-k : tie.Need-add-k Inv-loop μ-loop Inv-replay μ-replay
 add-k c = omega (arith, c .before .before .before .before .before .stretch-at .ensures .within, c .before .before .before .before .before .before .before .before .before .pair-at .ensures .countFits)
 
--- src/replay.rt:73:9
 loop-less : tie.Need-loop-less Inv-loop μ-loop Inv-replay μ-replay
 loop-less c = omega (arith, c .before .before .before .before .before .stretch-at .ensures .within, c .before .before .before .before .before .stretch-at .ensures .some)
 
--- src/replay.rt:73:9
 loop-again : tie.Need-loop-again Inv-loop μ-loop Inv-replay μ-replay
 loop-again c =
     let t = (c .before .before .before .before) in
     let e = subst (λ (r : Entered). enteredOf r ≡ enterRun (c .before .before .before .before .before .before .before .before .before .before .before .before .before .before .before .args .room) (c .before .before .before .before .before .before .before .before .loop .tail) (c .before .before .before .before .before .stretch-at .result .count) (c .before .before .before .before .before .stretch-at .result .index)) (c .before .before .next .given .1) (c .before .before .before .before .enter-run .ensures) in
     (replaying-run _ _ _ _ (c .before .before .before .before .before .before .before .before .loop .inv .0) (turn-run t) e, c .before .before .before .before .before .before .before .before .loop .inv .1)
 
--- src/replay.rt:88:9
 next-pattern-requires : tie.Need-next-pattern-requires Inv-loop μ-loop Inv-replay μ-replay
 next-pattern-requires c κs = behind-fits _ (c .before .before .before .before .before .before .replay .here) (c .before .before .loop .k) (c .before .before .loop .inv .0 .ahead) (c .before .before .before .before .if1 .taken) _ (c .before .before .before .before .before .before .before .before .before .pre .fixed) _ (c .before .before .before .pair-at .ensures)
 
--- src/replay.rt:70:5
 replay-less : tie.Need-replay-less Inv-loop μ-loop Inv-replay μ-replay
 replay-less c =
     let e : c .next-pattern .result .left ≡ c .before .before .before .before .before .before .before .replay .here .left - 1 = ap (λ (x : PatternsAt). x .left) (c .next-pattern .ensures) in
     omega (arith, c .before .before .before .before .before .if1 .taken)
 
--- src/replay.rt:70:5
 replay-again : tie.Need-replay-again Inv-loop μ-loop Inv-replay μ-replay
 replay-again c =
     let a = walk-next _ (c .before .before .before .before .before .before .before .replay .here) (c .before .before .before .loop .k) (c .before .before .before .loop .inv .0 .ahead) (c .before .before .before .before .before .if1 .taken) _ (c .before .before .before .before .before .before .before .before .before .before .pre .fixed) _ (c .before .before .before .before .pair-at .ensures) (c .before .if2 .left) in
     (rw (c .next-pattern .ensures) (replaying-at _ _ _ _ (c .before .before .before .loop .inv .0) _ a), c .before .before .before .loop .inv .1)
 
--- src/replay.rt:91:9
 returns : tie.Need-returns Inv-loop μ-loop Inv-replay μ-replay
 returns c = ⊎-elim (λ w. absurd (c .if3 .taken (w .0))) (λ w. rw (w .1)) (done (c .before))
 
--- src/replay.rt:59:1
 returns-2 : tie.Need-returns-2 Inv-loop μ-loop Inv-replay μ-replay
 returns-2 c = ⊎-elim (λ w. rw (w .1 .1, w .1 .2)) (λ w. absurd (omega (arith, w .0, c .if3 .left))) (done (c .before))
 

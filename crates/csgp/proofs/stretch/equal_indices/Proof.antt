@@ -1,16 +1,12 @@
-use native.Mathlib.Nat.{mul-suc, mul-one}
-use native.Mathlib.Numerals.{add-one}
 use mathlib.Core.Path.{_≡_, sym, _∙_}
-use Prim.Native.Nat.{_≤_, _<_, _+_, _-_, _*_}
+use Prim.Native.Nat.{_+_, _-_, _*_}
+use native.Mathlib.Nat.{mul-suc}
 use native.Mathlib.Omega.{arith}
 use borrow.Author.Needs.{needs}
 use Rattle.csgp.specs.Stretch.{indexBits, IsStretch}
 use Rattle.csgp.proofs.Stretches.{field-end, stretch-one, stretch-more}
 use Rattle.csgp.proofs.stretch.equal_indices.Statement.{statement}
 use Rattle.csgp.proofs.stretch.equal_indices.Tie as tie
-use Rattle.csgp.proofs.stretch.equal_indices.Reads as reads
-use Rattle.csgp.proofs.stretch.equal_indices.Lts as lts
-use Rattle.fields.proofs.read_bits.Reads as read-bits-reads
 
 abbrev Inv-loop : tie.InvT-loop
 Inv-loop s width place from end step at₀ index count₀ at count = IsStretch (indexBits width s place) from end (record { count = count; index = index }) × (at + width ≡ place + width * (from + count))
@@ -18,59 +14,48 @@ Inv-loop s width place from end step at₀ index count₀ at count = IsStretch (
 abbrev μ-loop : tie.MeasureT-loop
 μ-loop s width place from end step at₀ index count₀ at count = end - (from + count)
 
--- src/stretch.rt:24:26
 mul-at : tie.Need-mul-at Inv-loop μ-loop
 mul-at c =
     let a = c .before .args in
     omega (arith, field-end (a .width) (a .place) (a .from) (a .end) (c .before .pre .1))
 
--- src/stretch.rt:24:18
 add-at : tie.Need-add-at Inv-loop μ-loop
 add-at c =
     let a = c .before .args in
     omega (arith, field-end (a .width) (a .place) (a .from) (a .end) (c .before .pre .1))
 
--- src/stretch.rt:25:9
 read-bits-requires : tie.Need-read-bits-requires Inv-loop μ-loop
 read-bits-requires c κs =
     let a = c .before .args in
     omega (arith, field-end (a .width) (a .place) (a .from) (a .end) (c .before .pre .1))
 
--- src/stretch.rt:27:5
 loop-holds : tie.Need-loop-holds Inv-loop μ-loop
 loop-holds c =
     let a = c .before .before .args in
     (stretch-one _ (a .from) (a .end) (c .before .before .pre .1) (sym (c .read-bits .ensures .0)), omega (arith, mul-suc (a .width) (a .from)))
 
--- src/stretch.rt:27:11
 add-loop : tie.Need-add-loop Inv-loop μ-loop
 add-loop c = search needs
 
--- src/stretch.rt:28:14
 add-at-2 : tie.Need-add-at-2 Inv-loop μ-loop
 add-at-2 c =
     let a = c .before .before .before .before .args in
     omega (arith, c .before .loop .inv .1, field-end (a .width) (a .place) (a .from + c .before .loop .count) (a .end) (c .loop-test .taken), c .before .before .before .before .pre .2, c .before .before .before .before .pre .3)
 
--- src/stretch.rt:29:12
 read-bits-requires-2 : tie.Need-read-bits-requires-2 Inv-loop μ-loop
 read-bits-requires-2 c κs =
     let a = c .before .before .before .before .args in
     omega (arith, c .before .loop .inv .1, field-end (a .width) (a .place) (a .from + c .before .loop .count) (a .end) (c .loop-test .taken), c .before .before .before .before .pre .0, c .before .before .before .before .pre .2)
 
--- src/stretch.rt:30:13
 returns : tie.Need-returns Inv-loop μ-loop
 returns c = c .before .before .before .loop .inv .0
 
--- src/stretch.rt:32:17
 add-count : tie.Need-add-count Inv-loop μ-loop
 add-count c = search needs
 
--- src/stretch.rt:27:5
 loop-less : tie.Need-loop-less Inv-loop μ-loop
 loop-less c = search needs
 
--- src/stretch.rt:27:5
 loop-again : tie.Need-loop-again Inv-loop μ-loop
 loop-again c =
     let a = c .before .before .before .before .before .before .args in
@@ -78,7 +63,6 @@ loop-again c =
     let e = rw i at (c .before .read-bits2 .ensures .0) in
     (stretch-more _ (a .from) (a .end) (c .before .before .before .loop .inv .0) (c .before .before .loop-test .taken) (sym e ∙ c .if1 .left), omega (arith, mul-suc (a .width) (a .from + c .before .before .before .loop .count)))
 
--- src/stretch.rt:17:1
 returns-2 : tie.Need-returns-2 Inv-loop μ-loop
 returns-2 c = c .before .loop .inv .0
 

@@ -1,47 +1,36 @@
-use mathlib.Core.Path.{_≡_, subst}
-use Prim.Native.Nat.{ℕ, _≤_, _<_, _+_, _-_, _*_, _%_}
+use mathlib.Core.Path.{subst}
+use Prim.Native.Nat.{ℕ, _≤_, _<_, _+_, _-_, _%_}
 use native.Mathlib.Nat.{mod-lt, mul-le-mul-left}
 use native.Mathlib.Omega.{arith}
+use borrow.Author.Needs.{needs}
 use Rattle.csgp.specs.Stretch.{indexBits, IsStretch}
 use Rattle.csgp.proofs.Stretches.{stretch-part, stretch-all}
-use borrow.Author.Needs.{needs}
 use Rattle.csgp.proofs.stretch.stretch_at.Statement.{statement}
 use Rattle.csgp.proofs.stretch.stretch_at.Tie as tie
-use Rattle.csgp.proofs.stretch.stretch_at.Reads as reads
-use Rattle.csgp.proofs.stretch.stretch_at.Lts as lts
-use Rattle.csgp.proofs.stretch.equal_indices.Reads as equal-indices-reads
-use Rattle.csgp.proofs.stretch.least.Reads as least-reads
 
--- src/stretch.rt:53:16
 rem-from : tie.Need-rem-from
 rem-from c = search needs
 
--- src/stretch.rt:54:16
 sub-left : tie.Need-sub-left
 sub-left c = search needs
 
--- src/stretch.rt:55:34
 sub-least : tie.Need-sub-least
 sub-least c = omega (arith, mod-lt (c .before .args .k) (c .before .pre .1))
 
--- src/stretch.rt:55:22
 least-requires : tie.Need-least-requires
 least-requires c κs = search needs
 
--- src/stretch.rt:55:15
 add-end : tie.Need-add-end
-add-end c = omega (arith, mod-lt (c .before .before .args .k) (c .before .before .pre .1), c .least .ensures .1)
+add-end c = omega (arith, mod-lt (c .before .before .args .k) (c .before .before .pre .1), c .least .ensures)
 
--- src/stretch.rt:56:9
 equal-indices-requires : tie.Need-equal-indices-requires
 equal-indices-requires c κs =
     let a = c .before .before .args in
     let m : a .k % a .length < a .length = mod-lt (a .k) (c .before .before .pre .1) in
-    let n = c .least .ensures .2 (omega arith) (omega arith) in
+    let n = c .least .ensures in
     let h : a .k % a .length + c .least .result ≤ a .length = omega arith in
     (c .before .before .pre .0, omega arith, omega (arith, mul-le-mul-left (a .width) h), c .before .before .pre .4)
 
--- src/stretch.rt:58:9
 returns : tie.Need-returns
 returns c =
     let a = c .before .before .before .before .before .args in
@@ -50,7 +39,6 @@ returns c =
     let t = subst (λ (n : ℕ). IsStretch f (a .k % a .length) (a .k % a .length + c .before .before .before .least .result) (record { count = n; index = c .before .before .equal-indices .result .index })) (c .if1 .taken) (c .before .before .equal-indices .ensures) in
     stretch-all f (a .length) (a .k) (a .count) (c .before .before .before .before .before .pre .1) _ _ t (omega arith) (c .before .before .before .before .before .pre .2)
 
--- src/stretch.rt:45:1
 returns-2 : tie.Need-returns-2
 returns-2 c =
     let a = c .before .before .before .before .before .args in

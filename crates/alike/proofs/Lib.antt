@@ -1,0 +1,4 @@
+pub mod Over
+pub mod Values
+pub mod Decides
+pub mod Pairs

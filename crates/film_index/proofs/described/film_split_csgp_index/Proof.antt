@@ -1,0 +1,43 @@
+use mathlib.Core.Path.{refl}
+use borrow.Author.Needs.{needs}
+use Rattle.film_index.proofs.described.film_split_csgp_index.Statement.{statement}
+use Rattle.film_index.proofs.described.film_split_csgp_index.Tie as tie
+use Rattle.film_index.proofs.described.film_split_csgp_index.Reads as reads
+use Rattle.film_index.proofs.described.film_split_csgp_index.Lts as lts
+use Rattle.film_index.proofs.described.flag.Reads as flag-reads
+use Rattle.fragments.proofs.split_csgp_index.Reads as split-csgp-index-reads
+
+-- src/described.rt:23:9
+split-csgp-index-requires : tie.Need-split-csgp-index-requires
+split-csgp-index-requires c κs = search needs
+
+-- src/described.rt:24:14
+cast-out : tie.Need-cast-out
+cast-out c = search needs
+
+-- src/described.rt:24:5
+element-write-out : tie.Need-element-write-out
+element-write-out c = search needs
+
+-- src/described.rt:25:14
+flag-requires : tie.Need-flag-requires
+flag-requires c κs = search needs
+
+-- src/described.rt:25:5
+element-write-out-2 : tie.Need-element-write-out-2
+element-write-out-2 c = search needs
+
+-- src/described.rt:19:1
+returns : tie.Need-returns
+returns c = record { status = refl; out = rw (c .flag .ensures, c .before .before .split-csgp-index .ensures .0, c .before .before .split-csgp-index .ensures .1) refl }
+
+pub film-split-csgp-index-spec : {M : Type 1} → statement M
+film-split-csgp-index-spec =
+    tie.close
+    (tie.spec
+    split-csgp-index-requires
+    cast-out
+    element-write-out
+    flag-requires
+    element-write-out-2
+    returns)
