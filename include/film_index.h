@@ -42,4 +42,37 @@ uint32_t film_group_index_for_sample(const uint32_t *rows, size_t rows_len, uint
 /* The number of samples that the rows cover. out: the sum. */
 uint32_t film_covered_samples(const uint32_t *rows, size_t rows_len, uint64_t out[1]);
 
+/* Group descriptions. */
+
+/* Reads a whole sgpd payload. out: version, grouping type, default length, default index (carried, not used), entry count. */
+uint32_t film_parse_sgpd(const uint8_t *s, size_t len, uint64_t out[5]);
+
+/* Entry `index`, counted from 1, once the whole payload is read; FILM_NONE for 0 and past the count.
+ * out: place and length of the entry's bytes in the payload. */
+uint32_t film_entry_place(const uint8_t *s, size_t len, uint32_t index, uint64_t out[2]);
+
+/* Typed entries: `s` is an entry's bytes. Points, offsets and pieces are counted from 0; FILM_NONE past the count. */
+uint32_t film_decode_roll(const uint8_t *s, size_t len, int16_t out[1]); /* distance */
+uint32_t film_decode_prol(const uint8_t *s, size_t len, int16_t out[1]); /* distance */
+uint32_t film_decode_rap(const uint8_t *s, size_t len, uint64_t out[2]); /* known, number of leading samples */
+uint32_t film_decode_tele(const uint8_t *s, size_t len, uint64_t out[1]); /* independently decodable */
+uint32_t film_decode_sap(const uint8_t *s, size_t len, uint64_t out[2]); /* dependent, type */
+uint32_t film_decode_rash(const uint8_t *s, size_t len, uint64_t out[4]); /* points, maximum, minimum, priority */
+uint32_t film_rash_operation_point(const uint8_t *s, size_t len, uint32_t k, uint64_t out[2]); /* bitrate, share */
+uint32_t film_decode_alst(const uint8_t *s, size_t len, uint64_t out[3]); /* roll count, first output sample, pieces */
+uint32_t film_alst_sample_offset(const uint8_t *s, size_t len, uint32_t k, uint64_t out[1]); /* offset */
+uint32_t film_alst_piece(const uint8_t *s, size_t len, uint32_t k, uint64_t out[2]); /* output samples, total samples */
+
+/* Whether two entries of one grouping type decode to the same value. out: 1 or 0. */
+uint32_t film_decode_alike(uint32_t grouping_type, const uint8_t *a, size_t a_len, const uint8_t *b, size_t b_len, uint64_t out[1]);
+
+/* A csgp index of a fragment. out: the index without bit 31, and that bit (1: the fragment's own description). */
+uint32_t film_split_csgp_index(uint32_t raw, uint64_t out[2]);
+
+/* The entry that such an index names, in the film-wide or the fragment's sgpd payload. out: 1 for the fragment's, place, length. */
+uint32_t film_described_place(const uint8_t *film, size_t film_len, const uint8_t *fragment, size_t fragment_len, uint32_t raw, uint64_t out[3]);
+
+/* bitrate * share / 100, rounded down. */
+uint64_t film_rate_of_point(uint32_t bitrate, uint16_t share);
+
 #endif

@@ -5,7 +5,7 @@ use entries::DecodedRash;
 use entries::DecodedRoll;
 use entries::DecodedSap;
 use entries::DecodedTele;
-use entries::INPUT_LIMIT;
+use fields::INPUT_LIMIT;
 use fields::fourcc;
 ghost use mathlib.Core.Path.{_≡_};
 ghost use Prim.Native.Nat.{_≤_};

@@ -7,6 +7,7 @@ ghost use Rattle.fields.specs.Answer.{andThen};
 ghost use Rattle.fields.specs.Number.{beAt};
 ghost use Rattle.atom.specs.Atom.{headerAt, childAt, declaredAt, bodyAt, present, bySize, extended, endOf, inside, Sound};
 ghost use Rattle.atom.specs.Told.{sizeOf, parentEnd, headerOf, toldHeader, toldChild, toldPayload};
+use fields::INPUT_LIMIT;
 
 // The total size of an atom, header included; Open: it runs to the end of its parent or of the file.
 pub enum TotalSize {
@@ -50,9 +51,7 @@ pub enum ReadPayload {
     Refused(u32),
 }
 
-// The longest input that is taken, and the largest body that is read.
-const INPUT_LIMIT: usize = 67108864;
-
+// The largest body that is read.
 const MAX_INMEMORY_ATOM_BODY: u64 = 67108864;
 
 // The header at a place that has 8 bytes, by its 32-bit size.

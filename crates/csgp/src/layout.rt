@@ -7,6 +7,7 @@ ghost use Rattle.fields.specs.Answer.{choose, inputLimit};
 ghost use Rattle.fields.specs.Number.{beAt};
 ghost use Rattle.csgp.specs.Csgp.{widthOf, countPlace, lengthWidth, countWidth, indexPlace, bitCount};
 ghost use Rattle.csgp.specs.Layout.{Fixed, FixedTold, PairTold, PairsTold, PatternsTold, LayoutTold, allPatterns, patternsBehind};
+use fields::INPUT_LIMIT;
 use fields::read_bits;
 use fields::read_u8;
 use fields::read_u32;
@@ -104,7 +105,7 @@ fn layout_of(s: &[u8], flags: u32, place: usize) -> CsgpLayout
 fn fixed_fields(s: &[u8]) -> ReadLayout
     ensures { λ r. ⌜ FixedTold (now (s .entry)) r ⌝ }
 {
-    if 67108864 < s.len() {
+    if INPUT_LIMIT < s.len() {
         return ReadLayout::Refused(55);
     }
     if s.len() < 8 {

@@ -2,9 +2,9 @@
 use super::AlternativeStartup;
 use super::AlternativeStartupPiece;
 use super::DecodedAlst;
-use super::INPUT_LIMIT;
 use super::ReadOffset;
 use super::ReadPiece;
+use fields::INPUT_LIMIT;
 ghost use mathlib.Core.Path.{_≡_};
 ghost use Rattle.fields.specs.Answer.{within};
 ghost use Rattle.entries.specs.Decoded.{decodeAlst, alstOffset, alstPair};

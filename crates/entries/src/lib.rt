@@ -5,6 +5,7 @@ mod rash;
 pub use alst::alst_piece;
 pub use alst::alst_sample_offset;
 pub use alst::decode_alst;
+use fields::INPUT_LIMIT;
 pub use rash::decode_rash;
 pub use rash::rash_operation_point;
 pub use rash::rash_points_end;
@@ -103,8 +104,6 @@ pub enum ReadPiece {
     Nothing,
     Refused(u32),
 }
-
-pub const INPUT_LIMIT: usize = 67108864;
 
 // The signed number that 16 bits hold.
 pub fn signed_u16(x: u16) -> i16

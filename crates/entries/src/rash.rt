@@ -1,9 +1,9 @@
 // Rate share entries: the plain fields, and an operation point by number.
 use super::DecodedRash;
-use super::INPUT_LIMIT;
 use super::RateShare;
 use super::RateShareOperationPoint;
 use super::ReadPoint;
+use fields::INPUT_LIMIT;
 ghost use mathlib.Core.Path.{_≡_};
 ghost use Prim.Native.Nat.{_+_, _*_, _≤_};
 ghost use lib.Dec.{eqb};

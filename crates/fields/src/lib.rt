@@ -6,6 +6,9 @@ ghost use Prim.Native.Nat.{_+_, _*_, _≤_, _<_, _^_};
 ghost use lib.ListN.{length};
 ghost use Rattle.fields.specs.Number.{beAt, bitsAt};
 
+// The longest input that is taken, in bytes.
+pub const INPUT_LIMIT: usize = 67108864;
+
 pub fn read_u8(s: &[u8], at: usize) -> u8
     requires { ⌜ at + 1 ≤ length (now s) ⌝ }
     ensures { λ r. ⌜ (r ≡ beAt 1 (now (s .entry)) at) × (r < 256) ⌝ }
@@ -46,6 +49,9 @@ fn window(s: &[u8], at: usize) -> u64
     requires { ⌜ at ≤ length (now s) ⌝ }
     ensures { λ r. ⌜ (r ≡ beAt 5 (now (s .entry)) at) × (r < 1099511627776) ⌝ }
 {
+    if at + 5 <= s.len() {
+        return (read_u32(s, at) as u64) * 256 + (read_u8(s, at + 4) as u64);
+    }
     let high = byte_or_zero(s, at) * 16777216 + byte_or_zero(s, at + 1) * 65536;
     let low = byte_or_zero(s, at + 2) * 256 + byte_or_zero(s, at + 3);
     (high + low) * 256 + byte_or_zero(s, at + 4)

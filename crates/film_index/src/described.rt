@@ -4,16 +4,11 @@ ghost use Prim.Native.Nat.{_*_, _/_};
 ghost use Rattle.fields.specs.Answer.{given};
 ghost use Rattle.fragments.specs.Fragments.{describedAt};
 ghost use Rattle.film_index.specs.Status.{Returns};
-ghost use Rattle.film_index.specs.Descriptions.{bit, partNumbers};
+ghost use Rattle.film_index.specs.Descriptions.{partNumbers};
 ghost use Rattle.film_index.specs.Fragments.{splitNumbers, Likens};
+use crate::descriptions::bit_of;
 use alike::Alike;
 use fragments::FoundPart;
-
-fn flag(b: bool) -> u64
-    ensures { λ r. ⌜ r ≡ bit b ⌝ }
-{
-    if b { 1 } else { 0 }
-}
 
 // out: the index without bit 31, and that bit.
 #[no_mangle]
@@ -22,7 +17,7 @@ pub extern "C" fn film_split_csgp_index(raw: u32, out: &mut [u64; 2]) -> u32
 {
     let split = fragments::split_csgp_index(raw);
     out[0] = split.index as u64;
-    out[1] = flag(split.fragment_local);
+    out[1] = bit_of(split.fragment_local);
     0
 }
 

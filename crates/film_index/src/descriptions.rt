@@ -2,6 +2,7 @@
 ghost use mathlib.Core.Path.{_≡_};
 ghost use Rattle.fields.specs.Answer.{within};
 ghost use Rattle.entries.specs.Decoded.{decodeRoll, decodeRap, decodeTele, decodeSap, decodeRash, decodeAlst, rashPoint, alstOffset, alstPair};
+ghost use Rattle.entries.specs.Told.{toldRoll};
 ghost use Rattle.sgpd.specs.Sgpd.{parseSgpd, entryAt};
 ghost use Rattle.film_index.specs.Status.{Returns};
 ghost use Rattle.film_index.specs.Tables.{oneNumber};
@@ -19,7 +20,7 @@ use rows::DescriptionIndex;
 use sgpd::FoundEntry;
 use sgpd::ParsedSgpd;
 
-fn bit_of(b: bool) -> u64
+pub(crate) fn bit_of(b: bool) -> u64
     ensures { λ r. ⌜ r ≡ bit b ⌝ }
 {
     if b { 1 } else { 0 }
@@ -61,12 +62,10 @@ pub extern "C" fn film_entry_place(s: &[u8], index: u32, out: &mut [u64; 2]) -> 
     }
 }
 
-// out: the signed distance.
-#[no_mangle]
-pub extern "C" fn film_decode_roll(s: &[u8], out: &mut [i16; 1]) -> u32
-    ensures { λ r. ⌜ Returns (within (now (s .entry)) (decodeRoll (now (s .entry)))) rollNumbers (now (out .entry)) (now (out .exit)) r ⌝ }
+// Hands a distance out.
+fn put_roll(read: DecodedRoll, out: &mut [i16; 1]) -> u32
+    ensures { λ r. ⌜ Returns (toldRoll read) rollNumbers (now (out .entry)) (now (out .exit)) r ⌝ }
 {
-    let read = entries::decode_roll(s);
     match read {
         DecodedRoll::Roll(v) => {
             let distance = v.roll_distance;
@@ -77,20 +76,20 @@ pub extern "C" fn film_decode_roll(s: &[u8], out: &mut [i16; 1]) -> u32
     }
 }
 
+// out: the signed distance.
+#[no_mangle]
+pub extern "C" fn film_decode_roll(s: &[u8], out: &mut [i16; 1]) -> u32
+    ensures { λ r. ⌜ Returns (within (now (s .entry)) (decodeRoll (now (s .entry)))) rollNumbers (now (out .entry)) (now (out .exit)) r ⌝ }
+{
+    put_roll(entries::decode_roll(s), out)
+}
+
 // The same layout as a roll.
 #[no_mangle]
 pub extern "C" fn film_decode_prol(s: &[u8], out: &mut [i16; 1]) -> u32
     ensures { λ r. ⌜ Returns (within (now (s .entry)) (decodeRoll (now (s .entry)))) rollNumbers (now (out .entry)) (now (out .exit)) r ⌝ }
 {
-    let read = entries::decode_prol(s);
-    match read {
-        DecodedRoll::Roll(v) => {
-            let distance = v.roll_distance;
-            out[0] = distance;
-            0
-        }
-        DecodedRoll::Refused(n) => n,
-    }
+    put_roll(entries::decode_prol(s), out)
 }
 
 // out: known (0 or 1), number of leading samples.

@@ -1,14 +1,13 @@
 -- Two payloads: the order in which their answers are asked for, and that the entry lies within the one that has it.
-use mathlib.Core.Path.{_≡_, refl, ap, sym, _∙_}
+use mathlib.Core.Path.{_≡_, refl, _∙_}
 use mathlib.Core.Bool.{Bool, true, false}
 use mathlib.Core.List.{List}
-use Prim.Native.Nat.{ℕ, _+_, _≤_, _<_}
+use Prim.Native.Nat.{ℕ, _+_, _≤_}
 use lib.Dec.{ltb}
 use lib.ListN.{length}
-use Rattle.fields.specs.Answer.{Answer, given, none, refused, choose, refuseIf, andThen, inputLimit}
-use Rattle.fields.proofs.Answers.{Holds, holds-refuseIf, holds-choose, holds-given}
-use Rattle.sgpd.specs.Sgpd.{Span, Description, description, sgpd, parseSgpd, pick, entryAt}
-use Rattle.sgpd.proofs.Entries.{andThen-assoc, andThen-same, holds-andThen}
+use Rattle.fields.specs.Answer.{Answer, given, none, refused, choose, andThen, inputLimit}
+use Rattle.fields.proofs.Answers.{Holds, holds-refuseIf, holds-choose, holds-given, andThen-assoc, andThen-same, holds-andThen}
+use Rattle.sgpd.specs.Sgpd.{Span, Description, sgpd, parseSgpd, pick, entryAt}
 use Rattle.sgpd.proofs.Lookup.{Settled, sgpd-settled, Unrefused, pick-unrefused, entry-inside}
 use Rattle.fragments.specs.Fragments.{Part, localBit, indexOf, partIn, describedAt}
 

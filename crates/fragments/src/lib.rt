@@ -6,6 +6,7 @@ ghost use Rattle.fields.specs.Answer.{andThen};
 ghost use Rattle.sgpd.specs.Sgpd.{sgpd};
 ghost use Rattle.fragments.specs.Fragments.{localBit, indexOf, partIn, describedAt, bytesOf};
 ghost use Rattle.fragments.specs.Told.{toldPart};
+use fields::INPUT_LIMIT;
 use rows::DescriptionIndex;
 use sgpd::FoundEntry;
 use sgpd::ParsedSgpd;
@@ -23,8 +24,6 @@ pub enum FoundPart {
     Nothing,
     Refused(u32),
 }
-
-const INPUT_LIMIT: usize = 67108864;
 
 const LOCAL_BIT: u32 = 0x8000_0000;
 

@@ -11,14 +11,10 @@ use mathlib.Core.List.{List, [], _∷_, _++_, reverse, append-nil, append-assoc,
 use lib.Dec.{leb, eqb}
 use lib.ListN.{length, replicate, replicate-append-replicate}
 use Rattle.fields.specs.Answer.{Answer, given, none, refused, choose, andThen}
+use Rattle.fields.proofs.Answers.{andThen-assoc}
 use Rattle.rows.specs.Row.{Row, expand, covered, indexAt}
 use Rattle.rows.specs.Pattern.{Pattern, samplesOf, coveredBy, indexOf, countLimit, enter, replay}
 use Rattle.rows.proofs.Samples.{indexAt-expand, covered-expand, expand-append, coveredBy-samples, indexOf-samples}
-
-andThen-assoc : {A B C : Type 0} (a : Answer A) (f : A → Answer B) (g : B → Answer C) → andThen (andThen a f) g ≡ andThen a (λ x. andThen (f x) g)
-andThen-assoc (given x) f g = refl
-andThen-assoc none f g = refl
-andThen-assoc (refused n) f g = refl
 
 pub replay-append : (room : ℕ) (rows : List Row) (xs ys : List ℕ) → replay room rows (xs ++ ys) ≡ andThen (replay room rows xs) (λ r. replay room r ys)
 unfolding replay

@@ -8,10 +8,9 @@ ghost use Rattle.rows.specs.Found.{Parses};
 ghost use Rattle.sbgp.specs.Sbgp.{readRows, parseSbgp};
 ghost use Rattle.sbgp.specs.Layout.{Lays, Counted};
 ghost use Rattle.sbgp.specs.Stream.{NextTold, firstRow};
+use fields::INPUT_LIMIT;
 use rows::ParsedTable;
 use rows::SampleToGroup;
-
-const INPUT_LIMIT: usize = 67108864;
 
 // Where a payload's rows stand: their first place and how many they are.
 pub struct SbgpLayout {

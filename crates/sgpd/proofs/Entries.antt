@@ -1,38 +1,21 @@
 -- Entries of a payload: one by what tells its length, and the place behind some of them.
 use mathlib.Core.Path.{_≡_, refl, ap, sym, _∙_}
 use mathlib.Core.Bool.{Bool, true, false}
-use mathlib.Core.List.{List, [], _∷_}
+use mathlib.Core.List.{List}
 use Prim.Native.Nat.{ℕ, zero, suc, _+_, _-_, _*_, _/_, _≤_, _<_}
-use native.Mathlib.Nat.{suc-mul, add-assoc, zero-mul, add-zero, zero-add, suc-add}
+use native.Mathlib.Nat.{suc-mul, zero-mul, add-zero, zero-add, suc-add}
 use native.Mathlib.Decide.{decLt}
 use native.Mathlib.Omega.{arith}
 use borrow.Author.Tests.{lt-ltb, le-ltb, ltb-false, ne-eqb, eq-eqb}
 use lib.Dec.{ltb, leb, eqb}
 use lib.ListN.{length, getD}
-use Rattle.fields.specs.Answer.{Answer, given, none, refused, choose, refuseIf, noneIf, andThen}
+use Rattle.fields.specs.Answer.{Answer, given, none, refused, choose, refuseIf, andThen}
 use Rattle.fields.specs.Number.{beAt}
-use Rattle.fields.proofs.Answers.{Holds, holds-refuseIf, holds-given}
+use Rattle.fields.proofs.Answers.{Holds, holds-refuseIf, holds-given, holds-andThen, andThen-assoc, andThen-same, andThen-refuseIf}
 use Rattle.sgpd.specs.Sgpd.{version, groupingType, defaultLength, entryCount, implicitLength, Span, share, prefixed, declared, spanAt, spans, pick}
 use Rattle.sgpd.specs.Head.{lengthsBy, lengthsOf, whole, after}
 use Rattle.sgpd.specs.declared.Lengths.{Lengths}
 use Rattle.sgpd.specs.declared.Lengths.the-variants.{Fixed, Prefixed, Shared}
-
-pub andThen-assoc : {A B C : Type 0} (a : Answer A) (f : A → Answer B) (g : B → Answer C) → andThen (andThen a f) g ≡ andThen a (λ x. andThen (f x) g)
-andThen-assoc (given x) f g = refl
-andThen-assoc none f g = refl
-andThen-assoc (refused n) f g = refl
-
--- what follows needs to agree at the value only
-pub andThen-same : {A B : Type 0} (a : Answer A) (f g : A → Answer B) → ((x : A) → a ≡ given x → f x ≡ g x) → andThen a f ≡ andThen a g
-andThen-same (given x) f g e = e x refl
-andThen-same none f g e = refl
-andThen-same (refused n) f g e = refl
-
--- what holds of the value behind a first part
-pub holds-andThen : {A B : Type 0} (P : B → Type 0) (a : Answer A) (f : A → Answer B) → ((x : A) → a ≡ given x → Holds P (f x)) → Holds P (andThen a f)
-holds-andThen P (given x) f h = h x refl
-holds-andThen P none f h = tt
-holds-andThen P (refused n) f h = tt
 
 -- the entry at place p by what tells its length
 abbrev pub spanBy : Lengths → List ℕ → ℕ → Answer Span
@@ -48,17 +31,9 @@ module _ (s : List ℕ) (p : ℕ) where
   by-tests : (b c d : Bool) (k m : ℕ) →
       andThen (choose b (choose c (prefixed s p) (given (record { place = p; size = k }))) (choose d (share s p) (given (record { place = p; size = m })))) ended
       ≡ spanBy (choose b (choose c Prefixed (Fixed k)) (choose d Shared (Fixed m))) s p
-  by-tests true true d k m = cut (ltb (length s) (p + 4))
-    where
-      cut : (t : Bool) → andThen (refuseIf t 33 (given (record { place = p + 4; size = beAt 4 s p }))) ended ≡ refuseIf t 33 (whole s (p + 4) (beAt 4 s p))
-      cut true = refl
-      cut false = refl
+  by-tests true true d k m = andThen-refuseIf (ltb (length s) (p + 4)) 33 _ ended
   by-tests true false d k m = refl
-  by-tests false c true k m = zero-share (eqb ((length s - p) / entryCount s) 0)
-    where
-      zero-share : (t : Bool) → andThen (refuseIf t 34 (given (record { place = p; size = (length s - p) / entryCount s }))) ended ≡ refuseIf t 34 (whole s p ((length s - p) / entryCount s))
-      zero-share true = refl
-      zero-share false = refl
+  by-tests false c true k m = andThen-refuseIf (eqb ((length s - p) / entryCount s) 0) 34 _ ended
   by-tests false c false k m = refl
 
   pub spanAt-by : spanAt s p ≡ spanBy (lengthsOf s) s p
@@ -104,6 +79,13 @@ module _ (s : List ℕ) where
   after-refused zero p h g = absurd (omega arith)
   after-refused (suc n) p h g = rw g
 
+  -- m entries, then n more
+  pub after-add : (m n p : ℕ) → after (m + n) s p ≡ andThen (after m s p) (λ q. after n s q)
+  unfolding after
+  after-add zero n p = rw zero-add
+  after-add (suc m) n p =
+      rw suc-add (andThen-same (spanAt s p) _ _ (λ e g. after-add m n (e .place + e .size)) ∙ sym (andThen-assoc (spanAt s p) _ _))
+
   -- the entries are read exactly where the place behind them is reached, with the same refusals
   pub spans-after : {B : Type 0} (n p : ℕ) (y : Answer B) → andThen (spans n s p) (λ es. y) ≡ andThen (after n s p) (λ q. y)
   unfolding spans after
@@ -127,7 +109,7 @@ module _ (s : List ℕ) where
   pub spans-length : (n p : ℕ) {es : List Span} → spans n s p ≡ given es → length es ≡ n
   spans-length n p g = holds-given (Counted n) (spans n s p) (spans-holds n p) g
 
-  -- entries of one length k: the product of count and length has to fit
+  -- entries of one length k: the product of count and length has to fit, and entry n, counted from 0, is at p + n * k
   pub after-fixed : {k : ℕ} → lengthsOf s ≡ Fixed k → (n p : ℕ) → p ≤ length s → after n s p ≡ refuseIf (ltb (length s) (p + n * k)) 35 (given (p + n * k))
   unfolding after
   after-fixed {k} f zero p h = rw (zero-mul, add-zero, le-ltb _ _ h)
@@ -141,6 +123,10 @@ module _ (s : List ℕ) where
             let i : p + k ≤ length s = omega arith in
             rw (spanAt-by s p, f, le-ltb _ _ i, e) (after-fixed f n (p + k) i)
       ]
+
+  -- so n entries are given exactly where p + n * k is within the payload, and are refused by 35 elsewhere
+  pub spans-fixed : {B : Type 0} {k : ℕ} → lengthsOf s ≡ Fixed k → (n p : ℕ) → p ≤ length s → (y : Answer B) → andThen (spans n s p) (λ es. y) ≡ refuseIf (ltb (length s) (p + n * k)) 35 y
+  spans-fixed {k} f n p h y = spans-after n p y ∙ rw (after-fixed f n p h) (andThen-refuseIf (ltb (length s) (p + n * k)) 35 (p + n * k) (λ q. y))
 
   abbrev noSpan : Span
   noSpan = record { place = 0; size = 0 }

@@ -5,9 +5,9 @@ use mathlib.Core.List.{List}
 use Prim.Native.Nat.{ℕ, _+_, _≤_, _<_}
 use native.Mathlib.Omega.{arith}
 use borrow.Author.Tests.{lt-ltb, le-ltb, le-leb, ltb-false, ne-eqb}
-use lib.Dec.{ltb, leb, eqb}
+use lib.Dec.{ltb, leb}
 use lib.ListN.{length}
-use Rattle.fields.specs.Answer.{Answer, given, none, refused, choose, refuseIf, andThen, inputLimit}
+use Rattle.fields.specs.Answer.{Answer, given, refused, choose, refuseIf, inputLimit}
 use Rattle.fields.specs.Number.{beAt}
 use Rattle.fields.proofs.Answers.{Holds, holds-refuseIf, holds-given}
 use Rattle.sgpd.specs.Sgpd.{Span, version, countPlace, entryCount, spans, headed, sgpd}
@@ -110,6 +110,10 @@ module _ (s : List ℕ) where
   pub sgpd-given : {es : List Span} → sgpd s ≡ given es → entries ≡ given es
   unfolding sgpd
   sgpd-given e = sym (head-rest entries e entries) ∙ e
+
+  pub sgpd-head : {es : List Span} → sgpd s ≡ given es → headAt s ≡ given (headOf s)
+  unfolding sgpd
+  sgpd-head e = head-rest entries e (given (headOf s))
 
 -- the fields of a head that was read
 module _ {s : List ℕ} {h : SgpdHead} (o : HeadOf s h) where

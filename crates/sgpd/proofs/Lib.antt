@@ -1,3 +1,4 @@
+pub mod Cursor
 pub mod Entries
 pub mod Heads
 pub mod Lookup

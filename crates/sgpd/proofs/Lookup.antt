@@ -1,20 +1,20 @@
 -- The answers of a payload: an entry that is found lies within it, only an entry is ever missing, and only the payload is refused.
-use mathlib.Core.Path.{_≡_, ap, sym, _∙_}
+use mathlib.Core.Path.{_≡_}
 use mathlib.Core.Bool.{Bool, true, false}
-use mathlib.Core.List.{List, _∷_}
-use Prim.Native.Nat.{ℕ, zero, suc, _+_, _-_, _/_, _≤_, _<_}
+use mathlib.Core.List.{List}
+use Prim.Native.Nat.{ℕ, zero, suc, _+_, _-_, _/_, _≤_}
 use native.Mathlib.Decide.{decLt}
 use native.Mathlib.Omega.{arith}
 use lib.Dec.{ltb, leb, eqb}
 use lib.ListN.{length, getD}
 use Rattle.fields.specs.Answer.{Answer, given, none, refused, choose, refuseIf, noneIf, andThen, inputLimit}
 use Rattle.fields.specs.Number.{beAt}
-use Rattle.fields.proofs.Answers.{Holds, holds-given}
+use Rattle.fields.proofs.Answers.{Holds, holds-given, holds-andThen}
 use Rattle.sgpd.specs.Sgpd.{Span, version, countPlace, entryCount, spanAt, spans, sgpd, pick, entryAt}
 use Rattle.sgpd.specs.Head.{after, lengthsOf, whole}
 use Rattle.sgpd.specs.declared.Lengths.{Lengths}
 use Rattle.sgpd.specs.declared.Lengths.the-variants.{Fixed, Prefixed, Shared}
-use Rattle.sgpd.proofs.Entries.{spanBy, spanAt-by, holds-andThen, spanAt-holds, spans-pick, spans-none}
+use Rattle.sgpd.proofs.Entries.{spanBy, spanAt-by, spanAt-holds, spans-pick, spans-none}
 use Rattle.sgpd.proofs.Heads.{checks, sgpd-given}
 
 module _ (s : List ℕ) where

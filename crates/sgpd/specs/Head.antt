@@ -6,7 +6,10 @@ use lib.Dec.{ltb, leb, eqb}
 use lib.ListN.{length}
 use Rattle.fields.specs.Answer.{Answer, given, refused, choose, refuseIf, andThen, inputLimit}
 use Rattle.fields.specs.Number.{beAt}
-use Rattle.sgpd.specs.Sgpd.{version, groupingType, defaultLength, defaultIndex, countPlace, entryCount, implicitLength, Span, spanAt, headed, sgpd}
+use Rattle.sgpd.specs.Sgpd.{version, groupingType, defaultLength, defaultIndex, countPlace, entryCount, implicitLength, Span, spanAt, headed, sgpd, entryAt}
+use Rattle.sgpd.specs.Told.{toldEntry}
+use Rattle.sgpd.specs.declared.EntryCursor.{EntryCursor}
+use Rattle.sgpd.specs.declared.EntryStep.{EntryStep}
 use Rattle.sgpd.specs.declared.SgpdHead.{SgpdHead}
 use Rattle.sgpd.specs.declared.ReadHead.{ReadHead}
 use Rattle.sgpd.specs.declared.ReadHead.the-variants as head
@@ -82,6 +85,27 @@ pub record HeadOf (s : List ℕ) (h : SgpdHead) : Type 0 where
   pub read : headAt s ≡ given h
   pub short : length s ≤ inputLimit
   pub inside : h .first ≤ length s
+
+-- h is the head of a payload that was read whole
+pub record ReadWhole (s : List ℕ) (h : SgpdHead) : Type 0 where
+  pub head : HeadOf s h
+  pub entries : List Span
+  pub read : sgpd s ≡ given entries
+
+-- a cursor at the place where its entry starts, behind those before it
+pub record OnEntry (s : List ℕ) (c : EntryCursor) : Type 0 where
+  pub number : 1 ≤ c .index
+  pub place : after (c .index - 1) s (countPlace s + 4) ≡ given (c .place)
+
+-- the number of the entry on which a cursor stands after entry i was asked for: i where there is one, else n as before
+abbrev pub movedTo : List ℕ → ℕ → ℕ → ℕ
+movedTo s n i = choose (eqb i 0) n (choose (ltb (entryCount s) i) n i)
+
+-- entry i, and a cursor that stands on entry n
+pub record Stepped (s : List ℕ) (i n : ℕ) (r : EntryStep) : Type 0 where
+  pub found : toldEntry (r .found) ≡ entryAt s i
+  pub index : r .cursor .index ≡ n
+  pub cursor : OnEntry s (r .cursor)
 
 -- a place p among the n entries of a payload, with what tells their lengths
 pub record Among (s : List ℕ) (l : Lengths) (n p : ℕ) : Type 0 where

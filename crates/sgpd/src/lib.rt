@@ -5,9 +5,10 @@ ghost use lib.ListN.{length};
 ghost use Rattle.fields.specs.Answer.{andThen, given};
 ghost use Rattle.sgpd.specs.Sgpd.{parseSgpd, entryAt, partOf, implicitLength, entryCount, countPlace, spanAt, spans, pick, sgpd};
 ghost use Rattle.sgpd.specs.Told.{toldSgpd, toldEntry};
-ghost use Rattle.sgpd.specs.Head.{headOf, headAt, toldHead, countAt, lengthsBy, toldSpan, whole, after, toldMove, HeadOf, Among};
+ghost use Rattle.sgpd.specs.Head.{headOf, headAt, toldHead, countAt, lengthsBy, toldSpan, whole, after, toldMove, HeadOf, ReadWhole, OnEntry, movedTo, Stepped, Among};
 
 // The number of a description, counted from 1; 0 is none.
+use fields::INPUT_LIMIT;
 use rows::DescriptionIndex;
 
 pub struct SampleGroupDescription {
@@ -31,6 +32,18 @@ pub enum FoundEntry {
     Refused(u32),
 }
 
+// Where an entry starts: its number, counted from 1, and its place.
+pub struct EntryCursor {
+    pub index: u32,
+    pub place: usize,
+}
+
+// An entry, and the cursor from which the next one is looked for.
+pub struct EntryStep {
+    pub found: FoundEntry,
+    pub cursor: EntryCursor,
+}
+
 // The fixed fields, and the place of the first entry.
 pub struct SgpdHead {
     pub version: u8,
@@ -47,7 +60,7 @@ pub enum ReadHead {
 }
 
 // What tells an entry's length.
-pub enum Lengths {
+enum Lengths {
     // All entries have this one.
     Fixed(u32),
     // It stands before each entry.
@@ -67,8 +80,6 @@ enum Moved {
     At(usize),
     Refused(u32),
 }
-
-const INPUT_LIMIT: usize = 67108864;
 
 // The length that version 0 gives the entries of a type; 0 where it gives none.
 fn implicit_length(grouping_type: u32) -> u32
@@ -341,4 +352,73 @@ pub fn entry(s: &[u8], index: DescriptionIndex) -> &[u8]
         FoundEntry::Nothing => &s[0..0],
         FoundEntry::Refused(_) => &s[0..0],
     }
+}
+
+// The cursor at the first entry.
+pub fn first_entry(head: SgpdHead) -> EntryCursor
+    ensures { λ r. ⌜ (r .index ≡ 1) × (r .place ≡ head .first) ⌝ }
+{
+    EntryCursor {
+        index: 1,
+        place: head.first,
+    }
+}
+
+// The entry of a number that the cursor has not passed.
+fn entry_onward(s: &[u8], head: SgpdHead, cursor: EntryCursor, i: u32) -> EntryStep
+    requires { ⌜ ReadWhole (now s) head ⌝ }
+    requires { ⌜ OnEntry (now s) cursor ⌝ }
+    requires { ⌜ (cursor .index ≤ i) × (i ≤ head .«entry_count») ⌝ }
+    ensures { λ r. ⌜ Stepped (now (s .entry)) i i r ⌝ }
+{
+    let lengths = lengths_by(head.version, head.grouping_type, head.default_length);
+    let count = head.entry_count;
+    let place = cursor.place;
+    match skip(s, lengths, count, place, i - cursor.index) {
+        Moved::At(at) => {
+            let found = found_at(s, lengths, count, at);
+            EntryStep {
+                found,
+                cursor: EntryCursor {
+                    index: i,
+                    place: at,
+                },
+            }
+        }
+        Moved::Refused(n) => EntryStep {
+            found: FoundEntry::Refused(n),
+            cursor,
+        },
+    }
+}
+
+// An entry of a payload that was read whole. The bytes from the cursor on are read, so numbers that rise read each byte once;
+// a number that the cursor has passed starts at the first entry again.
+pub fn entry_from(
+    s: &[u8],
+    head: SgpdHead,
+    cursor: EntryCursor,
+    index: DescriptionIndex,
+) -> EntryStep
+    requires { ⌜ ReadWhole (now s) head ⌝ }
+    requires { ⌜ OnEntry (now s) cursor ⌝ }
+    ensures { λ r. ⌜ Stepped (now (s .entry)) (index .0) (movedTo (now (s .entry)) (cursor .index) (index .0)) r ⌝ }
+{
+    let i = index.0;
+    if i == 0 {
+        return EntryStep {
+            found: FoundEntry::Nothing,
+            cursor,
+        };
+    }
+    if head.entry_count < i {
+        return EntryStep {
+            found: FoundEntry::Nothing,
+            cursor,
+        };
+    }
+    if i < cursor.index {
+        return entry_onward(s, head, first_entry(head), i);
+    }
+    entry_onward(s, head, cursor, i)
 }

@@ -2,7 +2,7 @@
 use crate::numbers;
 use crate::numbers::DIFFERS;
 
-pub fn sgpd(s: &[u8], expected: &[u8]) -> u32 {
+pub(crate) fn sgpd(s: &[u8], expected: &[u8]) -> u32 {
     let mut out = [0u64; 5];
     let status = film_index::descriptions::film_parse_sgpd(s, &mut out);
     numbers::checked(
@@ -13,7 +13,7 @@ pub fn sgpd(s: &[u8], expected: &[u8]) -> u32 {
     )
 }
 
-pub fn entry(s: &[u8], index: u64, expected: &[u8]) -> u32 {
+pub(crate) fn entry(s: &[u8], index: u64, expected: &[u8]) -> u32 {
     let mut out = [0u64; 2];
     let status = film_index::descriptions::film_entry_place(
         s,
@@ -37,45 +37,45 @@ fn checked_distance(status: u32, distance: i16, expected: &[u8]) -> u32 {
     DIFFERS
 }
 
-pub fn roll(s: &[u8], expected: &[u8]) -> u32 {
+pub(crate) fn roll(s: &[u8], expected: &[u8]) -> u32 {
     let mut out = [0i16; 1];
     let status = film_index::descriptions::film_decode_roll(s, &mut out);
     let distance = out[0];
     checked_distance(status, distance, expected)
 }
 
-pub fn prol(s: &[u8], expected: &[u8]) -> u32 {
+pub(crate) fn prol(s: &[u8], expected: &[u8]) -> u32 {
     let mut out = [0i16; 1];
     let status = film_index::descriptions::film_decode_prol(s, &mut out);
     let distance = out[0];
     checked_distance(status, distance, expected)
 }
 
-pub fn rap(s: &[u8], expected: &[u8]) -> u32 {
+pub(crate) fn rap(s: &[u8], expected: &[u8]) -> u32 {
     let mut out = [0u64; 2];
     let status = film_index::descriptions::film_decode_rap(s, &mut out);
     numbers::checked(status, &[out[0], out[1], 0, 0, 0, 0], 2, expected)
 }
 
-pub fn tele(s: &[u8], expected: &[u8]) -> u32 {
+pub(crate) fn tele(s: &[u8], expected: &[u8]) -> u32 {
     let mut out = [0u64; 1];
     let status = film_index::descriptions::film_decode_tele(s, &mut out);
     numbers::checked(status, &[out[0], 0, 0, 0, 0, 0], 1, expected)
 }
 
-pub fn sap(s: &[u8], expected: &[u8]) -> u32 {
+pub(crate) fn sap(s: &[u8], expected: &[u8]) -> u32 {
     let mut out = [0u64; 2];
     let status = film_index::descriptions::film_decode_sap(s, &mut out);
     numbers::checked(status, &[out[0], out[1], 0, 0, 0, 0], 2, expected)
 }
 
-pub fn rash(s: &[u8], expected: &[u8]) -> u32 {
+pub(crate) fn rash(s: &[u8], expected: &[u8]) -> u32 {
     let mut out = [0u64; 4];
     let status = film_index::descriptions::film_decode_rash(s, &mut out);
     numbers::checked(status, &[out[0], out[1], out[2], out[3], 0, 0], 4, expected)
 }
 
-pub fn point(s: &[u8], k: u64, expected: &[u8]) -> u32 {
+pub(crate) fn point(s: &[u8], k: u64, expected: &[u8]) -> u32 {
     let mut out = [0u64; 2];
     let status = film_index::descriptions::film_rash_operation_point(
         s,
@@ -85,13 +85,13 @@ pub fn point(s: &[u8], k: u64, expected: &[u8]) -> u32 {
     numbers::checked(status, &[out[0], out[1], 0, 0, 0, 0], 2, expected)
 }
 
-pub fn alst(s: &[u8], expected: &[u8]) -> u32 {
+pub(crate) fn alst(s: &[u8], expected: &[u8]) -> u32 {
     let mut out = [0u64; 3];
     let status = film_index::descriptions::film_decode_alst(s, &mut out);
     numbers::checked(status, &[out[0], out[1], out[2], 0, 0, 0], 3, expected)
 }
 
-pub fn offset(s: &[u8], k: u64, expected: &[u8]) -> u32 {
+pub(crate) fn offset(s: &[u8], k: u64, expected: &[u8]) -> u32 {
     let mut out = [0u64; 1];
     let status = film_index::descriptions::film_alst_sample_offset(
         s,
@@ -101,7 +101,7 @@ pub fn offset(s: &[u8], k: u64, expected: &[u8]) -> u32 {
     numbers::checked(status, &[out[0], 0, 0, 0, 0, 0], 1, expected)
 }
 
-pub fn piece(s: &[u8], k: u64, expected: &[u8]) -> u32 {
+pub(crate) fn piece(s: &[u8], k: u64, expected: &[u8]) -> u32 {
     let mut out = [0u64; 2];
     let status = film_index::descriptions::film_alst_piece(s, (k % 4294967296) as u32, &mut out);
     numbers::checked(status, &[out[0], out[1], 0, 0, 0, 0], 2, expected)

@@ -3,7 +3,7 @@ ghost use Prim.Native.Nat.{_≤_, _<_};
 ghost use lib.ListN.{length};
 
 // The place of the next line's end, at or behind `from`.
-pub fn line_end(text: &[u8], from: usize) -> usize
+pub(crate) fn line_end(text: &[u8], from: usize) -> usize
     requires { ⌜ from < length (now text) ⌝ }
     ensures { λ r. ⌜ (from ≤ r) × (r ≤ length (now (text .entry))) ⌝ }
 {
@@ -35,7 +35,7 @@ fn digit(b: u8) -> u8
 }
 
 // The bytes that the digits from `from` to `to` write: how many, and 0 where they write none or more than `bytes` holds.
-pub fn decode(text: &[u8], from: usize, to: usize, bytes: &mut [u8]) -> usize
+pub(crate) fn decode(text: &[u8], from: usize, to: usize, bytes: &mut [u8]) -> usize
     requires { ⌜ (from ≤ to) × (to ≤ length (now text)) ⌝ }
     ensures { λ r. ⌜ r ≤ length (now (bytes .exit)) ⌝ }
 {

@@ -2,10 +2,10 @@
 ghost use Prim.Native.Nat.{_≤_};
 
 // The status where the numbers differ.
-pub const DIFFERS: u32 = 1000;
+pub(crate) const DIFFERS: u32 = 1000;
 
 // The status, if the first `count` numbers are the expected ones with a value and none are expected without.
-pub fn checked(status: u32, out: &[u64; 6], count: usize, numbers: &[u8]) -> u32
+pub(crate) fn checked(status: u32, out: &[u64; 6], count: usize, numbers: &[u8]) -> u32
     requires { ⌜ count ≤ 6 ⌝ }
 {
     if status != 0 {

@@ -8,7 +8,7 @@ use crate::numbers::DIFFERS;
 use crate::tables;
 
 // The library gives the answer that the record has.
-pub fn agrees(record: &[u8]) -> bool {
+pub(crate) fn agrees(record: &[u8]) -> bool {
     if record.len() < 2 {
         return false;
     }

@@ -5,7 +5,7 @@ use crate::numbers;
 use crate::numbers::DIFFERS;
 
 // The record's numbers are the table's head and then its rows.
-pub fn sbgp(s: &[u8], lent: u64, expected: &[u8]) -> u32 {
+pub(crate) fn sbgp(s: &[u8], lent: u64, expected: &[u8]) -> u32 {
     let mut space = [0u32; 128];
     if 128 < lent {
         return DIFFERS;
@@ -13,7 +13,7 @@ pub fn sbgp(s: &[u8], lent: u64, expected: &[u8]) -> u32 {
     sbgp_into(s, &mut space[..lent as usize], expected)
 }
 
-pub fn csgp(s: &[u8], lent: u64, expected: &[u8]) -> u32 {
+pub(crate) fn csgp(s: &[u8], lent: u64, expected: &[u8]) -> u32 {
     let mut space = [0u32; 128];
     if 128 < lent {
         return DIFFERS;
@@ -78,7 +78,7 @@ fn load(s: &[u8], rows: &mut [u32])
 }
 
 // The record's input is a run of rows.
-pub fn lookup(s: &[u8], sample: u64, expected: &[u8]) -> u32 {
+pub(crate) fn lookup(s: &[u8], sample: u64, expected: &[u8]) -> u32 {
     let mut space = [0u32; 128];
     let n = s.len() / 4;
     if 128 < n {
@@ -100,7 +100,7 @@ fn lookup_in(s: &[u8], rows: &mut [u32], sample: u64, expected: &[u8]) -> u32
     numbers::checked(status, &[out[0], 0, 0, 0, 0, 0], 1, expected)
 }
 
-pub fn covered(s: &[u8], expected: &[u8]) -> u32 {
+pub(crate) fn covered(s: &[u8], expected: &[u8]) -> u32 {
     let mut space = [0u32; 128];
     let n = s.len() / 4;
     if 128 < n {

@@ -28,103 +28,80 @@ film-inside c = let a = c .before .before .before .before .before .args in descr
 fragment-inside : (c : tie.After-at2) → c .at2 .given .0 .0 + c .at2 .given .0 .1 .0 ≤ length (c .before .before .before .before .before .args .fragment .now)
 fragment-inside c = let a = c .before .before .before .before .before .args in described-inside (a .film .now) (a .fragment .now) (a .raw) (fragment-found c)
 
--- src/lib.rt:95:11
 described-place-requires : tie.Need-described-place-requires
 described-place-requires c κs = search needs
 
--- src/lib.rt:96:25
 enum-known-at : tie.Need-enum-known-at
 enum-known-at c = search needs
 
--- src/lib.rt:97:23
 add-end : tie.Need-add-end
 add-end c = omega (arith, film-inside (c .before))
 
--- src/lib.rt:98:13
 sub-result : tie.Need-sub-result
 sub-result c = search needs
 
--- src/lib.rt:98:13
 part-result-start : tie.Need-part-result-start
 part-result-start c = search needs
 
--- src/lib.rt:98:13
 part-result-end : tie.Need-part-result-end
 part-result-end c = omega (arith, film-inside (c .before))
 
--- src/lib.rt:100:29
 enum-known-at-2 : tie.Need-enum-known-at-2
 enum-known-at-2 c = search needs
 
--- src/lib.rt:101:23
 add-end-2 : tie.Need-add-end-2
 add-end-2 c = omega (arith, fragment-inside (c .before))
 
--- src/lib.rt:102:13
 sub-result-2 : tie.Need-sub-result-2
 sub-result-2 c = search needs
 
--- src/lib.rt:102:13
 part-result-start-2 : tie.Need-part-result-start-2
 part-result-start-2 c = search needs
 
--- src/lib.rt:102:13
 part-result-end-2 : tie.Need-part-result-end-2
 part-result-end-2 c = omega (arith, fragment-inside (c .before))
 
--- src/lib.rt:104:31
 enum-told : tie.Need-enum-told
 enum-told c = search needs
 
--- src/lib.rt:104:31
 sub-result-3 : tie.Need-sub-result-3
 sub-result-3 c = search needs
 
--- src/lib.rt:104:31
 part-result-start-3 : tie.Need-part-result-start-3
 part-result-start-3 c = search needs
 
--- src/lib.rt:104:31
 part-result-end-3 : tie.Need-part-result-end-3
 part-result-end-3 c = search needs
 
--- src/lib.rt:105:34
 enum-told-2 : tie.Need-enum-told-2
 enum-told-2 c = search needs
 
--- src/lib.rt:105:34
 sub-result-4 : tie.Need-sub-result-4
 sub-result-4 c = search needs
 
--- src/lib.rt:105:34
 part-result-start-4 : tie.Need-part-result-start-4
 part-result-start-4 c = search needs
 
--- src/lib.rt:105:34
 part-result-end-4 : tie.Need-part-result-end-4
 part-result-end-4 c = search needs
 
--- src/lib.rt:92:1
 returns : tie.Need-returns
 returns c =
     let d = c .before .before in
     let e : d .at .given .0 .0 + d .at .given .0 .1 .0 - d .at .given .0 .0 ≡ d .at .given .0 .1 .0 = omega arith in
     rw (film-found d, e) refl
 
--- src/lib.rt:92:1
 returns-2 : tie.Need-returns-2
 returns-2 c =
     let d = c .before .before in
     let e : d .at2 .given .0 .0 + d .at2 .given .0 .1 .0 - d .at2 .given .0 .0 ≡ d .at2 .given .0 .1 .0 = omega arith in
     rw (fragment-found d, e) refl
 
--- src/lib.rt:92:1
 returns-3 : tie.Need-returns-3
 returns-3 c =
     let a = c .before .before .before .before .before .before .args in
     ap (bytesOf (a .film .now) (a .fragment .now)) (ap toldPart (sym (c .before .enum-told .given .1)) ∙ c .before .before .before .described-place .ensures)
 
--- src/lib.rt:92:1
 returns-4 : tie.Need-returns-4
 returns-4 c =
     let a = c .before .before .before .before .before .before .args in

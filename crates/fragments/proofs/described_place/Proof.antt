@@ -1,6 +1,6 @@
 use Rattle.fragments.specs.Fragments.{localBit}
 use mathlib.Core.Bool.{true, false}
-use mathlib.Core.Path.{_≡_, refl, sym, _∙_}
+use mathlib.Core.Path.{_≡_, sym, _∙_}
 use borrow.Author.Tests.{lt-ltb, le-ltb}
 use borrow.Author.Needs.{needs}
 use Rattle.fragments.proofs.described_place.Statement.{statement}
@@ -11,23 +11,18 @@ use Rattle.fragments.proofs.in_film.Reads as in-film-reads
 use Rattle.fragments.proofs.in_fragment.Reads as in-fragment-reads
 use Rattle.fragments.proofs.split_csgp_index.Reads as split-csgp-index-reads
 
--- src/lib.rt:78:9
 returns : tie.Need-returns
 returns c = simp (lt-ltb _ _ (c .if1 .taken))
 
--- src/lib.rt:81:9
 returns-2 : tie.Need-returns-2
 returns-2 c = simp (le-ltb _ _ (c .before .if1 .left), lt-ltb _ _ (c .if2 .taken))
 
--- src/lib.rt:83:9
 split-csgp-index-requires : tie.Need-split-csgp-index-requires
 split-csgp-index-requires c κs = search needs
 
--- src/lib.rt:86:9
 in-fragment-requires : tie.Need-in-fragment-requires
 in-fragment-requires c κs = search needs
 
--- src/lib.rt:86:9
 returns-3 : tie.Need-returns-3
 returns-3 c =
     let d = c .before .before in
@@ -35,11 +30,9 @@ returns-3 c =
     let b : localBit (a .raw) ≡ true = sym (d .split-csgp-index .ensures .1) ∙ c .before .if3 .taken in
     c .in-fragment .ensures ∙ simp (le-ltb _ _ (d .before .before .if1 .left), le-ltb _ _ (d .before .if2 .left), b, d .split-csgp-index .ensures .0)
 
--- src/lib.rt:88:5
 in-film-requires : tie.Need-in-film-requires
 in-film-requires c κs = search needs
 
--- src/lib.rt:74:1
 returns-4 : tie.Need-returns-4
 returns-4 c =
     let d = c .before .before in

@@ -9,47 +9,36 @@ use Rattle.fragments.proofs.in_film.Lts as lts
 use Rattle.sgpd.proofs.entry_place.Reads as entry-place-reads
 use Rattle.sgpd.proofs.parse_sgpd.Reads as parse-sgpd-reads
 
--- src/lib.rt:46:11
 entry-place-requires : tie.Need-entry-place-requires
 entry-place-requires c κs = search needs
 
--- src/lib.rt:47:27
 enum-known-place : tie.Need-enum-known-place
 enum-known-place c = search needs
 
--- src/lib.rt:47:49
 parse-sgpd-requires : tie.Need-parse-sgpd-requires
 parse-sgpd-requires c κs = search needs
 
--- src/lib.rt:48:43
 enum-told : tie.Need-enum-told
 enum-told c = search needs
 
--- src/lib.rt:49:33
 enum-known-n : tie.Need-enum-known-n
 enum-known-n c = search needs
 
--- src/lib.rt:51:38
 enum-told-2 : tie.Need-enum-told-2
 enum-told-2 c = search needs
 
--- src/lib.rt:51:38
 parse-sgpd-requires-2 : tie.Need-parse-sgpd-requires-2
 parse-sgpd-requires-2 c κs = search needs
 
--- src/lib.rt:52:43
 enum-told-3 : tie.Need-enum-told-3
 enum-told-3 c = search needs
 
--- src/lib.rt:53:33
 enum-known-n-2 : tie.Need-enum-known-n-2
 enum-known-n-2 c = search needs
 
--- src/lib.rt:55:29
 enum-known-n-3 : tie.Need-enum-known-n-3
 enum-known-n-3 c = search needs
 
--- src/lib.rt:43:1
 returns : tie.Need-returns
 returns c =
     let b = c .before .before .before .before .before .before in
@@ -58,7 +47,6 @@ returns c =
     (ap toldEntry (sym (c .before .before .before .before .place .given .1)) ∙ b .entry-place .ensures)
     (ap toldSgpd (sym (c .enum-told .given .1)) ∙ c .before .before .parse-sgpd .ensures)
 
--- src/lib.rt:43:1
 returns-2 : tie.Need-returns-2
 returns-2 c =
     let b = c .before .before .before .before .before .before .before in
@@ -67,7 +55,6 @@ returns-2 c =
     (ap toldEntry (sym (c .before .before .before .before .before .place .given .1)) ∙ b .entry-place .ensures)
     (ap toldSgpd (sym (c .before .n .given .1)) ∙ c .before .before .before .parse-sgpd .ensures)
 
--- src/lib.rt:43:1
 returns-3 : tie.Need-returns-3
 returns-3 c =
     let b = c .before .before .before .before .before in
@@ -76,7 +63,6 @@ returns-3 c =
     (ap toldEntry (sym (c .before .before .before .enum-told2 .given .1)) ∙ b .entry-place .ensures)
     (ap toldSgpd (sym (c .enum-told3 .given .1)) ∙ c .before .before .parse-sgpd2 .ensures)
 
--- src/lib.rt:43:1
 returns-4 : tie.Need-returns-4
 returns-4 c =
     let b = c .before .before .before .before .before .before in
@@ -85,7 +71,6 @@ returns-4 c =
     (ap toldEntry (sym (c .before .before .before .before .enum-told2 .given .1)) ∙ b .entry-place .ensures)
     (ap toldSgpd (sym (c .before .n2 .given .1)) ∙ c .before .before .before .parse-sgpd2 .ensures)
 
--- src/lib.rt:43:1
 returns-5 : tie.Need-returns-5
 returns-5 c =
     let b = c .before .before .before in

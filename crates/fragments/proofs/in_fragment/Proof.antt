@@ -9,15 +9,12 @@ use Rattle.fragments.proofs.in_fragment.Lts as lts
 use Rattle.sgpd.proofs.entry_place.Reads as entry-place-reads
 use Rattle.sgpd.proofs.parse_sgpd.Reads as parse-sgpd-reads
 
--- src/lib.rt:63:37
 parse-sgpd-requires : tie.Need-parse-sgpd-requires
 parse-sgpd-requires c κs = search needs
 
--- src/lib.rt:63:32
 enum-known-n : tie.Need-enum-known-n
 enum-known-n c = search needs
 
--- src/lib.rt:64:9
 returns : tie.Need-returns
 returns c =
     let b = c .before .before .before in
@@ -27,23 +24,18 @@ returns c =
 enum-told : tie.Need-enum-told
 enum-told c = search needs
 
--- src/lib.rt:66:11
 entry-place-requires : tie.Need-entry-place-requires
 entry-place-requires c κs = search needs
 
--- src/lib.rt:67:27
 enum-known-place : tie.Need-enum-known-place
 enum-known-place c = search needs
 
--- src/lib.rt:68:32
 enum-told-2 : tie.Need-enum-told-2
 enum-told-2 c = search needs
 
--- src/lib.rt:69:29
 enum-known-n-2 : tie.Need-enum-known-n-2
 enum-known-n-2 c = search needs
 
--- src/lib.rt:60:1
 returns-2 : tie.Need-returns-2
 returns-2 c =
     let b = c .before .before .before .before in
@@ -52,7 +44,6 @@ returns-2 c =
     (ap toldSgpd (sym (b .enum-told .given .1)) ∙ b .before .before .parse-sgpd .ensures)
     (ap toldEntry (sym (c .before .place .given .1)) ∙ c .before .before .before .entry-place .ensures)
 
--- src/lib.rt:60:1
 returns-3 : tie.Need-returns-3
 returns-3 c =
     let b = c .before .before .before in
@@ -61,7 +52,6 @@ returns-3 c =
     (ap toldSgpd (sym (b .enum-told .given .1)) ∙ b .before .before .parse-sgpd .ensures)
     (ap toldEntry (sym (c .enum-told2 .given .1)) ∙ c .before .before .entry-place .ensures)
 
--- src/lib.rt:60:1
 returns-4 : tie.Need-returns-4
 returns-4 c =
     let b = c .before .before .before .before in

@@ -7,14 +7,12 @@ use Rattle.fragments.proofs.rate_of_point.Tie as tie
 use Rattle.fragments.proofs.rate_of_point.Reads as reads
 use Rattle.fragments.proofs.rate_of_point.Lts as lts
 
--- src/lib.rt:113:5
 mul-result : tie.Need-mul-result
 mul-result c =
     let a : c .args .bitrate ≤ 4294967295 = omega arith in
     let b : c .args .share ≤ 65535 = omega arith in
     omega (arith, mul-le-mul a b)
 
--- src/lib.rt:110:1
 returns : tie.Need-returns
 returns c = search needs
 

@@ -6,27 +6,21 @@ use Rattle.sgpd.proofs.count_at.Reads as reads
 use Rattle.sgpd.proofs.count_at.Lts as lts
 use Rattle.fields.proofs.read_u32.Reads as read-u32-reads
 
--- src/lib.rt:95:18
 add-if1 : tie.Need-add-if1
 add-if1 c = search needs
 
--- src/lib.rt:96:9
 returns : tie.Need-returns
 returns c = simp (lt-ltb _ _ (c .if1 .taken))
 
--- src/lib.rt:100:24
 read-u32-requires : tie.Need-read-u32-requires
 read-u32-requires c κs = search needs
 
--- src/lib.rt:103:22
 read-u32-requires-2 : tie.Need-read-u32-requires-2
 read-u32-requires-2 c κs = search needs
 
--- src/lib.rt:104:16
 add-t6 : tie.Need-add-t6
 add-t6 c = search needs
 
--- src/lib.rt:85:1
 returns-2 : tie.Need-returns-2
 returns-2 c = simp (le-ltb _ _ (c .before .before .if1 .left), c .before .read-u32 .ensures .0, c .read-u322 .ensures .0)
 

@@ -13,11 +13,9 @@ use Rattle.sgpd.proofs.entry.Reads as reads
 use Rattle.sgpd.proofs.entry.Lts as lts
 use Rattle.sgpd.proofs.entry_place.Reads as entry-place-reads
 
--- src/lib.rt:330:11
 entry-place-requires : tie.Need-entry-place-requires
 entry-place-requires c κs = search needs
 
--- src/lib.rt:331:27
 enum-known-at : tie.Need-enum-known-at
 enum-known-at c = search needs
 
@@ -28,66 +26,51 @@ found c = sym (ap toldEntry (sym (c .at .given .1)) ∙ c .before .before .entry
 inside : (c : tie.After-at) → c .at .given .0 .0 + c .at .given .0 .1 .0 ≤ length (c .before .before .before .before .args .s .now)
 inside c = let a = c .before .before .before .before .args in entry-inside (a .s .now) (a .index .0) (found c)
 
--- src/lib.rt:332:23
 add-end : tie.Need-add-end
 add-end c = omega (arith, inside (c .before))
 
--- src/lib.rt:333:13
 sub-result : tie.Need-sub-result
 sub-result c = search needs
 
--- src/lib.rt:333:13
 part-result-start : tie.Need-part-result-start
 part-result-start c = search needs
 
--- src/lib.rt:333:13
 part-result-end : tie.Need-part-result-end
 part-result-end c = omega (arith, inside (c .before))
 
--- src/lib.rt:335:32
 enum-told : tie.Need-enum-told
 enum-told c = search needs
 
--- src/lib.rt:335:32
 sub-result-2 : tie.Need-sub-result-2
 sub-result-2 c = search needs
 
--- src/lib.rt:335:32
 part-result-start-2 : tie.Need-part-result-start-2
 part-result-start-2 c = search needs
 
--- src/lib.rt:335:32
 part-result-end-2 : tie.Need-part-result-end-2
 part-result-end-2 c = search needs
 
--- src/lib.rt:336:35
 enum-told-2 : tie.Need-enum-told-2
 enum-told-2 c = search needs
 
--- src/lib.rt:336:35
 sub-result-3 : tie.Need-sub-result-3
 sub-result-3 c = search needs
 
--- src/lib.rt:336:35
 part-result-start-3 : tie.Need-part-result-start-3
 part-result-start-3 c = search needs
 
--- src/lib.rt:336:35
 part-result-end-3 : tie.Need-part-result-end-3
 part-result-end-3 c = search needs
 
--- src/lib.rt:327:1
 returns : tie.Need-returns
 returns c =
     let d = c .before .before in
     let e : d .at .given .0 .0 + d .at .given .0 .1 .0 - d .at .given .0 .0 ≡ d .at .given .0 .1 .0 = omega arith in
     rw (found d, e) refl
 
--- src/lib.rt:327:1
 returns-2 : tie.Need-returns-2
 returns-2 c = ap (partOf (c .before .before .before .before .before .args .s .now)) (ap toldEntry (sym (c .before .enum-told .given .1)) ∙ c .before .before .before .entry-place .ensures)
 
--- src/lib.rt:327:1
 returns-3 : tie.Need-returns-3
 returns-3 c = ap (partOf (c .before .before .before .before .before .args .s .now)) (ap toldEntry (sym (c .before .enum-told2 .given .1)) ∙ c .before .before .before .entry-place .ensures)
 

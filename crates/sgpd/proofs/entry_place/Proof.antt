@@ -12,15 +12,12 @@ use Rattle.sgpd.proofs.entry_within.Reads as entry-within-reads
 use Rattle.sgpd.proofs.no_entry.Reads as no-entry-reads
 use Rattle.sgpd.proofs.sgpd_head.Reads as sgpd-head-reads
 
--- src/lib.rt:312:22
 sgpd-head-requires : tie.Need-sgpd-head-requires
 sgpd-head-requires c κs = search needs
 
--- src/lib.rt:313:24
 enum-known-h : tie.Need-enum-known-h
 enum-known-h c = search needs
 
--- src/lib.rt:314:27
 enum-known-n : tie.Need-enum-known-n
 enum-known-n c = search needs
 
@@ -28,33 +25,26 @@ enum-known-n c = search needs
 read : (c : tie.After-h) → headAt (c .before .before .before .before .args .s .now) ≡ given (c .h .given .0 .0)
 read c = sym (ap toldHead (sym (c .h .given .1)) ∙ c .before .before .sgpd-head .ensures)
 
--- src/lib.rt:314:33
 returns : tie.Need-returns
 returns c =
     let d = c .before .before .before in
     rw (sgpd-refused (d .before .before .args .s .now) (sym (ap toldHead (sym (c .before .n .given .1)) ∙ d .sgpd-head .ensures))) refl
 
--- src/lib.rt:318:9
 no-entry-requires : tie.Need-no-entry-requires
 no-entry-requires c κs = (head-of _ (read (c .before .before)), λ h. absurd (omega arith))
 
--- src/lib.rt:318:9
 returns-2 : tie.Need-returns-2
 returns-2 c = c .no-entry .ensures ∙ rw (sgpd-spans _ (read (c .before .before .before))) refl
 
--- src/lib.rt:321:9
 no-entry-requires-2 : tie.Need-no-entry-requires-2
 no-entry-requires-2 c κs = (head-of _ (read (c .before .before .before .before)), λ h. c .if2 .taken)
 
--- src/lib.rt:321:9
 returns-3 : tie.Need-returns-3
 returns-3 c = c .no-entry2 .ensures ∙ rw (sgpd-spans _ (read (c .before .before .before .before .before))) refl
 
--- src/lib.rt:323:5
 entry-within-requires : tie.Need-entry-within-requires
 entry-within-requires c κs = (head-of _ (read (c .before .before .before .before)), (omega arith, c .if2 .left))
 
--- src/lib.rt:309:1
 returns-4 : tie.Need-returns-4
 returns-4 c = c .entry-within .ensures ∙ rw (sgpd-spans _ (read (c .before .before .before .before .before))) refl
 

@@ -5,7 +5,7 @@ use Rattle.sgpd.specs.Head.{after, toldMove, Among}
 use Rattle.fields.specs.Answer.{given}
 use Prim.Native.Nat.{ℕ, _+_, _-_}
 use native.Mathlib.Omega.{arith}
-use mathlib.Core.Path.{_≡_, refl, ap, sym, _∙_}
+use mathlib.Core.Path.{_≡_, ap, sym, _∙_}
 use borrow.Author.Needs.{needs}
 use Rattle.sgpd.proofs.entry_within.Statement.{statement}
 use Rattle.sgpd.proofs.entry_within.Tie as tie
@@ -15,23 +15,18 @@ use Rattle.sgpd.proofs.found_at.Reads as found-at-reads
 use Rattle.sgpd.proofs.lengths_by.Reads as lengths-by-reads
 use Rattle.sgpd.proofs.skip.Reads as skip-reads
 
--- src/lib.rt:283:9
 lengths-by-requires : tie.Need-lengths-by-requires
 lengths-by-requires c κs = search needs
 
--- src/lib.rt:285:18
 sub-before : tie.Need-sub-before
 sub-before c = search needs
 
--- src/lib.rt:286:20
 skip-requires : tie.Need-skip-requires
 skip-requires c κs = let h = c .before .before .pre .0 in (among h (c .lengths-by .ensures) (h .inside), omega arith)
 
--- src/lib.rt:287:19
 enum-known-p : tie.Need-enum-known-p
 enum-known-p c = search needs
 
--- src/lib.rt:288:24
 enum-known-n : tie.Need-enum-known-n
 enum-known-n c = search needs
 
@@ -48,7 +43,6 @@ within c =
     let h = d .before .before .pre .0 in
     among h (d .lengths-by .ensures) (after-inside _ _ _ (rw (first-is h) at (h .inside)) (reached c))
 
--- src/lib.rt:288:30
 returns : tie.Need-returns
 returns c =
     let d = c .before .before .before in
@@ -58,27 +52,21 @@ returns c =
     let e = ap toldMove (sym (c .before .n .given .1)) ∙ d .skip .ensures ∙ ap (λ (p : ℕ). after (i - 1) s p) (first-is h) in
     sym (spans-pick s (entryCount s) i (countPlace s + 4) (omega arith) (omega (arith, count-is h)) ∙ rw (← e))
 
--- src/lib.rt:290:39
 sub-skip : tie.Need-sub-skip
 sub-skip c = search needs
 
--- src/lib.rt:290:11
 skip-requires-2 : tie.Need-skip-requires-2
 skip-requires-2 c κs = (within (c .before), omega arith)
 
--- src/lib.rt:291:25
 enum-told : tie.Need-enum-told
 enum-told c = search needs
 
--- src/lib.rt:291:25
 found-at-requires : tie.Need-found-at-requires
 found-at-requires c κs = (within (c .before .before .before .before), omega arith)
 
--- src/lib.rt:292:24
 enum-known-n-2 : tie.Need-enum-known-n-2
 enum-known-n-2 c = search needs
 
--- src/lib.rt:278:1
 returns-2 : tie.Need-returns-2
 returns-2 c =
     let d = c .before .before .before in
@@ -90,7 +78,6 @@ returns-2 c =
     c .found-at .ensures
     ∙ sym (spans-pick s (entryCount s) i (countPlace s + 4) (omega (arith, c)) (omega (arith, c, count-is h)) ∙ rw (reached b, ← e))
 
--- src/lib.rt:278:1
 returns-3 : tie.Need-returns-3
 returns-3 c =
     let d = c .before .before .before in

@@ -7,23 +7,18 @@ use Rattle.sgpd.proofs.found_at.Reads as reads
 use Rattle.sgpd.proofs.found_at.Lts as lts
 use Rattle.sgpd.proofs.span_at.Reads as span-at-reads
 
--- src/lib.rt:271:11
 span-at-requires : tie.Need-span-at-requires
 span-at-requires c κs = search needs
 
--- src/lib.rt:272:24
 enum-known-place : tie.Need-enum-known-place
 enum-known-place c = search needs
 
--- src/lib.rt:273:26
 enum-known-n : tie.Need-enum-known-n
 enum-known-n c = search needs
 
--- src/lib.rt:266:1
 returns : tie.Need-returns
 returns c = ap toldSpan (sym (c .before .place .given .1)) ∙ c .before .before .before .span-at .ensures
 
--- src/lib.rt:266:1
 returns-2 : tie.Need-returns-2
 returns-2 c = ap toldSpan (sym (c .before .n .given .1)) ∙ c .before .before .before .span-at .ensures
 

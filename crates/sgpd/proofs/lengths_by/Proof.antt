@@ -10,28 +10,23 @@ use Rattle.sgpd.proofs.lengths_by.Reads as reads
 use Rattle.sgpd.proofs.lengths_by.Lts as lts
 use Rattle.sgpd.proofs.implicit_length.Reads as implicit-length-reads
 
--- src/lib.rt:138:17
 implicit-length-requires : tie.Need-implicit-length-requires
 implicit-length-requires c κs = search needs
 
--- src/lib.rt:140:17
 returns : tie.Need-returns
 unfolding lengthsBy
 returns c = simp (c .before .before .match .keys1, eq-eqb _ _ (sym (c .before .implicit-length .ensures) ∙ c .if1 .taken))
 
--- src/lib.rt:146:17
 returns-2 : tie.Need-returns-2
 unfolding lengthsBy
 returns-2 c =
     let h : 1 ≤ c .before .before .args .version = omega (arith, c .before .match .rest .1) in
     simp (le-leb _ _ h, eq-eqb _ _ (c .if2 .taken))
 
--- src/lib.rt:133:1
 returns-3 : tie.Need-returns-3
 unfolding lengthsBy
 returns-3 c = simp (c .before .before .match .keys1, ne-eqb _ _ (λ e. c .if1 .left (c .before .implicit-length .ensures ∙ e)), c .before .implicit-length .ensures)
 
--- src/lib.rt:133:1
 returns-4 : tie.Need-returns-4
 unfolding lengthsBy
 returns-4 c =

@@ -12,19 +12,15 @@ use Rattle.sgpd.proofs.no_entry.Reads as reads
 use Rattle.sgpd.proofs.no_entry.Lts as lts
 use Rattle.sgpd.proofs.skip_all.Reads as skip-all-reads
 
--- src/lib.rt:302:11
 skip-all-requires : tie.Need-skip-all-requires
 skip-all-requires c κs = search needs
 
--- src/lib.rt:303:25
 enum-told : tie.Need-enum-told
 enum-told c = search needs
 
--- src/lib.rt:304:24
 enum-known-n : tie.Need-enum-known-n
 enum-known-n c = search needs
 
--- src/lib.rt:297:1
 returns : tie.Need-returns
 returns c =
     let d = c .before .before .before .before in
@@ -32,7 +28,6 @@ returns c =
     let e = ap toldMove (sym (c .enum-told .given .1)) ∙ c .before .before .skip-all .ensures in
     sym (spans-none s (entryCount s) (d .args .i) (countPlace s + 4) (λ h. omega (arith, d .pre .1 h, count-is (d .pre .0))) ∙ rw (← e))
 
--- src/lib.rt:297:1
 returns-2 : tie.Need-returns-2
 returns-2 c =
     let d = c .before .before .before .before .before in

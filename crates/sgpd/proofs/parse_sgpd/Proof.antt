@@ -1,9 +1,9 @@
-use Rattle.sgpd.proofs.Entries.{andThen-assoc}
+use Rattle.fields.proofs.Answers.{andThen-assoc}
 use Rattle.sgpd.specs.declared.SgpdHead.{SgpdHead}
 use Rattle.sgpd.specs.Sgpd.{Description, sgpd}
 use Rattle.sgpd.specs.Head.{toldHead}
 use Rattle.fields.specs.Answer.{Answer, given, andThen}
-use mathlib.Core.Path.{ap, sym, _∙_, _≡_, refl}
+use mathlib.Core.Path.{ap, sym, _∙_}
 use borrow.Author.Needs.{needs}
 use Rattle.sgpd.proofs.parse_sgpd.Statement.{statement}
 use Rattle.sgpd.proofs.parse_sgpd.Tie as tie
@@ -11,15 +11,12 @@ use Rattle.sgpd.proofs.parse_sgpd.Reads as reads
 use Rattle.sgpd.proofs.parse_sgpd.Lts as lts
 use Rattle.sgpd.proofs.read_sgpd.Reads as read-sgpd-reads
 
--- src/lib.rt:254:11
 read-sgpd-requires : tie.Need-read-sgpd-requires
 read-sgpd-requires c κs = search needs
 
--- src/lib.rt:255:24
 enum-known-h : tie.Need-enum-known-h
 enum-known-h c = search needs
 
--- src/lib.rt:262:27
 enum-known-n : tie.Need-enum-known-n
 enum-known-n c = search needs
 
@@ -36,11 +33,9 @@ described a =
       count = h .«entry_count»;
     }))
 
--- src/lib.rt:251:1
 returns : tie.Need-returns
 returns c = ap described (ap toldHead (sym (c .before .h .given .1)) ∙ c .before .before .before .read-sgpd .ensures) ∙ andThen-assoc (sgpd (c .before .before .before .before .before .args .s .now)) _ _
 
--- src/lib.rt:251:1
 returns-2 : tie.Need-returns-2
 returns-2 c = ap described (ap toldHead (sym (c .before .n .given .1)) ∙ c .before .before .before .read-sgpd .ensures) ∙ andThen-assoc (sgpd (c .before .before .before .before .before .args .s .now)) _ _
 

@@ -13,15 +13,12 @@ use Rattle.sgpd.proofs.read_sgpd.Lts as lts
 use Rattle.sgpd.proofs.sgpd_head.Reads as sgpd-head-reads
 use Rattle.sgpd.proofs.skip_all.Reads as skip-all-reads
 
--- src/lib.rt:240:22
 sgpd-head-requires : tie.Need-sgpd-head-requires
 sgpd-head-requires c κs = search needs
 
--- src/lib.rt:241:24
 enum-known-h : tie.Need-enum-known-h
 enum-known-h c = search needs
 
--- src/lib.rt:242:27
 enum-known-n : tie.Need-enum-known-n
 enum-known-n c = search needs
 
@@ -29,25 +26,20 @@ enum-known-n c = search needs
 read : (c : tie.After-h) → headAt (c .before .before .before .before .args .s .now) ≡ given (c .h .given .0 .0)
 read c = sym (ap toldHead (sym (c .h .given .1)) ∙ c .before .before .sgpd-head .ensures)
 
--- src/lib.rt:242:33
 returns : tie.Need-returns
 returns c =
     let d = c .before .before .before in
     rw (sgpd-refused (d .before .before .args .s .now) (sym (ap toldHead (sym (c .before .n .given .1)) ∙ d .sgpd-head .ensures))) refl
 
--- src/lib.rt:244:11
 skip-all-requires : tie.Need-skip-all-requires
 skip-all-requires c κs = head-of _ (read (c .before))
 
--- src/lib.rt:245:25
 enum-told : tie.Need-enum-told
 enum-told c = search needs
 
--- src/lib.rt:246:24
 enum-known-n-2 : tie.Need-enum-known-n-2
 enum-known-n-2 c = search needs
 
--- src/lib.rt:237:1
 returns-2 : tie.Need-returns-2
 returns-2 c =
     let d = c .before .before .before .before in
@@ -55,7 +47,6 @@ returns-2 c =
     let e = ap toldMove (sym (c .enum-told .given .1)) ∙ c .before .before .skip-all .ensures in
     rw (sgpd-spans s (read d), spans-after s (entryCount s) (countPlace s + 4) (given (headOf s)), ← e) (ap given (head-same s (read d)))
 
--- src/lib.rt:237:1
 returns-3 : tie.Need-returns-3
 returns-3 c =
     let d = c .before .before .before .before .before in

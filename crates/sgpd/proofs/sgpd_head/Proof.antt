@@ -13,31 +13,24 @@ use Rattle.fields.proofs.read_u32.Reads as read-u32-reads
 use Rattle.fields.proofs.read_u8.Reads as read-u8-reads
 use Rattle.sgpd.proofs.count_at.Reads as count-at-reads
 
--- src/lib.rt:114:9
 returns : tie.Need-returns
 returns c = simp (lt-ltb _ _ (c .if1 .taken))
 
--- src/lib.rt:117:9
 returns-2 : tie.Need-returns-2
 returns-2 c = simp (le-ltb _ _ (c .before .if1 .left), lt-ltb _ _ (c .if2 .taken))
 
--- src/lib.rt:119:9
 read-u8-requires : tie.Need-read-u8-requires
 read-u8-requires c κs = search needs
 
--- src/lib.rt:121:14
 count-at-requires : tie.Need-count-at-requires
 count-at-requires c κs = search needs
 
--- src/lib.rt:122:35
 read-u32-requires : tie.Need-read-u32-requires
 read-u32-requires c κs = search needs
 
--- src/lib.rt:122:14
 count-at-requires-2 : tie.Need-count-at-requires-2
 count-at-requires-2 c κs = search needs
 
--- src/lib.rt:125:17
 returns-3 : tie.Need-returns-3
 returns-3 c =
     let d = c .before .before in
@@ -46,19 +39,15 @@ returns-3 c =
     let l : 2 ≤ version s = omega (arith, c .before .match .rest .0 .1, c .before .match .rest .1) in
     sym (head-31 s (d .before .before .if1 .left) (d .before .if2 .left) l (c .if3 .taken))
 
--- src/lib.rt:127:34
 read-u32-requires-2 : tie.Need-read-u32-requires-2
 read-u32-requires-2 c κs = search needs
 
--- src/lib.rt:127:58
 read-u32-requires-3 : tie.Need-read-u32-requires-3
 read-u32-requires-3 c κs = search needs
 
--- src/lib.rt:127:13
 count-at-requires-3 : tie.Need-count-at-requires-3
 count-at-requires-3 c κs = search needs
 
--- src/lib.rt:109:1
 returns-4 : tie.Need-returns-4
 returns-4 c =
     let d = c .before .before in
@@ -66,7 +55,6 @@ returns-4 c =
     let e : d .read-u8 .result ≡ version s = d .read-u8 .ensures .0 in
     c .count-at .ensures ∙ rw e (sym (head-0 s (d .before .before .if1 .left) (d .before .if2 .left) (sym e ∙ c .before .match .keys1)))
 
--- src/lib.rt:109:1
 returns-5 : tie.Need-returns-5
 returns-5 c =
     let d = c .before .before .before in
@@ -75,7 +63,6 @@ returns-5 c =
     c .count-at2 .ensures
     ∙ rw (e, c .before .read-u32 .ensures .0) (sym (head-1 s (d .before .before .if1 .left) (d .before .if2 .left) (sym e ∙ c .before .before .match .keys2)))
 
--- src/lib.rt:109:1
 returns-6 : tie.Need-returns-6
 returns-6 c =
     let d = c .before .before .before .before .before in

@@ -4,7 +4,7 @@ use lib.ListN.{length}
 use Prim.Native.Nat.{_+_, _*_, _<_, _≤_}
 use native.Mathlib.Nat.{mul-le-mul}
 use native.Mathlib.Omega.{arith}
-use mathlib.Core.Path.{_≡_, sym, _∙_}
+use mathlib.Core.Path.{sym, _∙_}
 use borrow.Author.Needs.{needs}
 use Rattle.sgpd.proofs.skip.Statement.{statement}
 use Rattle.sgpd.proofs.skip.Tie as tie
@@ -12,15 +12,12 @@ use Rattle.sgpd.proofs.skip.Reads as reads
 use Rattle.sgpd.proofs.skip.Lts as lts
 use Rattle.sgpd.proofs.skip_each.Reads as skip-each-reads
 
--- src/lib.rt:215:24
 enum-known-lengths : tie.Need-enum-known-lengths
 enum-known-lengths c = search needs
 
--- src/lib.rt:216:40
 cast-size : tie.Need-cast-size
 cast-size c = search needs
 
--- src/lib.rt:216:24
 mul-size : tie.Need-mul-size
 mul-size c =
     let n = c .before .before .before .before .args .n in
@@ -29,11 +26,9 @@ mul-size c =
     let b : k ≤ 4294967295 = omega arith in
     omega (arith, mul-le-mul a b)
 
--- src/lib.rt:217:16
 sub-if1 : tie.Need-sub-if1
 sub-if1 c = search needs
 
--- src/lib.rt:218:17
 returns : tie.Need-returns
 returns c =
     let a = c .before .before .before .before .before .args in
@@ -41,27 +36,21 @@ returns c =
     let h : length (a .s .now) < a .at + a .n * k = omega arith in
     sym (after-fixed (a .s .now) (sym (c .before .before .before .before .before .pre .0 .lengths) ∙ c .before .before .lengths .given .1) (a .n) (a .at) (omega arith) ∙ simp (lt-ltb _ _ h))
 
--- src/lib.rt:220:23
 add-t9 : tie.Need-add-t9
 add-t9 c = search needs
 
--- src/lib.rt:222:30
 enum-told : tie.Need-enum-told
 enum-told c = search needs
 
--- src/lib.rt:222:30
 skip-each-requires : tie.Need-skip-each-requires
 skip-each-requires c κs = search needs
 
--- src/lib.rt:223:28
 enum-told-2 : tie.Need-enum-told-2
 enum-told-2 c = search needs
 
--- src/lib.rt:223:28
 skip-each-requires-2 : tie.Need-skip-each-requires-2
 skip-each-requires-2 c κs = search needs
 
--- src/lib.rt:209:1
 returns-2 : tie.Need-returns-2
 returns-2 c =
     let a = c .before .before .before .before .before .args in
@@ -69,11 +58,9 @@ returns-2 c =
     let h : a .at + a .n * k ≤ length (a .s .now) = omega arith in
     sym (after-fixed (a .s .now) (sym (c .before .before .before .before .before .pre .0 .lengths) ∙ c .before .before .lengths .given .1) (a .n) (a .at) (omega arith) ∙ simp (le-ltb _ _ h))
 
--- src/lib.rt:209:1
 returns-3 : tie.Need-returns-3
 returns-3 c = search needs
 
--- src/lib.rt:209:1
 returns-4 : tie.Need-returns-4
 returns-4 c = search needs
 

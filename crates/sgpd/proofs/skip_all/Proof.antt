@@ -9,15 +9,12 @@ use Rattle.sgpd.proofs.skip_all.Lts as lts
 use Rattle.sgpd.proofs.lengths_by.Reads as lengths-by-reads
 use Rattle.sgpd.proofs.skip.Reads as skip-reads
 
--- src/lib.rt:232:9
 lengths-by-requires : tie.Need-lengths-by-requires
 lengths-by-requires c κs = search needs
 
--- src/lib.rt:233:5
 skip-requires : tie.Need-skip-requires
 skip-requires c κs = let h = c .before .before .pre in (among h (c .lengths-by .ensures) (h .inside), omega arith)
 
--- src/lib.rt:228:1
 returns : tie.Need-returns
 returns c = let h = c .before .before .before .pre in c .skip .ensures ∙ rw (count-is h, first-is h) refl
 

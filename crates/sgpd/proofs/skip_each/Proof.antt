@@ -1,10 +1,10 @@
 use Rattle.sgpd.proofs.Entries.{spanAt-inside, after-step, after-refused}
-use Rattle.fields.specs.Answer.{given, refused}
-use Rattle.sgpd.specs.Sgpd.{Span, spanAt}
+use Rattle.fields.specs.Answer.{given}
+use Rattle.sgpd.specs.Sgpd.{spanAt}
 use Rattle.sgpd.specs.Head.{after, toldSpan}
 use lib.ListN.{length}
 use native.Mathlib.Omega.{arith}
-use Prim.Native.Nat.{_≤_, _-_}
+use Prim.Native.Nat.{_≤_}
 use mathlib.Core.Path.{_≡_, refl, sym, _∙_, ap}
 use borrow.Author.Needs.{needs}
 use Rattle.sgpd.proofs.skip_each.Statement.{statement}
@@ -24,47 +24,37 @@ entered : (c : tie.After-place Inv-loop μ-loop) →
     spanAt (c .before .before .before .before .before .before .args .s .now) (c .before .before .before .before .loop .p) ≡ given (record { place = c .place .given .0 .0; size = c .place .given .0 .1 .0 })
 entered c = sym (ap toldSpan (sym (c .place .given .1)) ∙ c .before .before .span-at .ensures)
 
--- src/lib.rt:196:5
 loop-holds : tie.Need-loop-holds Inv-loop μ-loop
 loop-holds c = (search needs, search needs, refl)
 
--- src/lib.rt:197:15
 span-at-requires : tie.Need-span-at-requires Inv-loop μ-loop
 span-at-requires c κs = search needs
 
--- src/lib.rt:198:28
 enum-known-place : tie.Need-enum-known-place Inv-loop μ-loop
 enum-known-place c = search needs
 
--- src/lib.rt:199:21
 add-p : tie.Need-add-p Inv-loop μ-loop
 add-p c = omega (arith, spanAt-inside _ _ (entered (c .before)))
 
--- src/lib.rt:200:24
 sub-left : tie.Need-sub-left Inv-loop μ-loop
 sub-left c = search needs
 
--- src/lib.rt:196:5
 loop-less : tie.Need-loop-less Inv-loop μ-loop
 loop-less c = search needs
 
--- src/lib.rt:196:5
 loop-again : tie.Need-loop-again Inv-loop μ-loop
 loop-again c =
     let d = c .before .before .before .before .before in
     (spanAt-inside _ _ (entered (c .before)), search needs, d .loop .inv .2 ∙ after-step _ _ _ (c .before .before .before .before .loop-test .taken) (entered (c .before)))
 
--- src/lib.rt:202:30
 enum-known-code : tie.Need-enum-known-code Inv-loop μ-loop
 enum-known-code c = search needs
 
--- src/lib.rt:202:39
 returns : tie.Need-returns Inv-loop μ-loop
 returns c =
     let d = c .before .before .before in
     sym (d .before .before .loop .inv .2 ∙ after-refused _ _ _ (d .before .loop-test .taken) (sym (ap toldSpan (sym (c .before .code .given .1)) ∙ d .span-at .ensures)))
 
--- src/lib.rt:189:1
 returns-2 : tie.Need-returns-2 Inv-loop μ-loop
 unfolding after
 returns-2 c = let z : c .before .loop .left ≡ 0 = omega arith in sym (c .before .loop .inv .2 ∙ rw z refl)

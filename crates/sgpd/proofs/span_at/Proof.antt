@@ -1,6 +1,6 @@
 use mathlib.Core.Bool.{true, false}
 use Rattle.sgpd.specs.Sgpd.{entryCount}
-use lib.Dec.{ltb, eqb}
+use lib.Dec.{eqb}
 use Rattle.sgpd.proofs.Entries.{spanAt-as}
 use lib.ListN.{length}
 use Prim.Native.Nat.{_+_, _<_, _≤_, _-_, _/_}
@@ -15,27 +15,21 @@ use Rattle.sgpd.proofs.span_at.Lts as lts
 use Rattle.fields.proofs.read_u32.Reads as read-u32-reads
 use Rattle.sgpd.proofs.whole_entry.Reads as whole-entry-reads
 
--- src/lib.rt:169:16
 sub-left : tie.Need-sub-left
 sub-left c = search needs
 
--- src/lib.rt:171:24
 enum-known-lengths : tie.Need-enum-known-lengths
 enum-known-lengths c = search needs
 
--- src/lib.rt:171:49
 cast-whole-entry : tie.Need-cast-whole-entry
 cast-whole-entry c = search needs
 
--- src/lib.rt:171:30
 whole-entry-requires : tie.Need-whole-entry-requires
 whole-entry-requires c κs = search needs
 
--- src/lib.rt:173:16
 enum-told : tie.Need-enum-told
 enum-told c = search needs
 
--- src/lib.rt:174:17
 returns : tie.Need-returns
 returns c =
     let d = c .before .before .before .before in
@@ -43,31 +37,24 @@ returns c =
     let h : length s < d .args .at + 4 = omega arith in
     sym (spanAt-as s (d .args .at) (d .pre .0 .lengths) (c .before .enum-told .given .1) ∙ simp (lt-ltb _ _ h))
 
--- src/lib.rt:176:28
 add-whole-entry : tie.Need-add-whole-entry
 add-whole-entry c = search needs
 
--- src/lib.rt:176:36
 read-u32-requires : tie.Need-read-u32-requires
 read-u32-requires c κs = search needs
 
--- src/lib.rt:176:36
 cast-whole-entry-2 : tie.Need-cast-whole-entry-2
 cast-whole-entry-2 c = search needs
 
--- src/lib.rt:176:13
 whole-entry-requires-2 : tie.Need-whole-entry-requires-2
 whole-entry-requires-2 c κs = search needs
 
--- src/lib.rt:179:32
 enum-told-2 : tie.Need-enum-told-2
 enum-told-2 c = search needs
 
--- src/lib.rt:179:24
 div-size : tie.Need-div-size
 div-size c = search needs
 
--- src/lib.rt:181:17
 returns-2 : tie.Need-returns-2
 returns-2 c =
     let d = c .before .before .before .before in
@@ -75,17 +62,14 @@ returns-2 c =
     let z : eqb ((length s - d .args .at) / entryCount s) 0 ≡ true = rw (← d .pre .0 .count) (eq-eqb _ _ (c .if2 .taken)) in
     sym (spanAt-as s (d .args .at) (d .pre .0 .lengths) (c .before .enum-told2 .given .1) ∙ simp z)
 
--- src/lib.rt:183:13
 whole-entry-requires-3 : tie.Need-whole-entry-requires-3
 whole-entry-requires-3 c κs = search needs
 
--- src/lib.rt:164:1
 returns-3 : tie.Need-returns-3
 returns-3 c =
     let d = c .before .before .before .before .before in
     c .whole-entry .ensures ∙ sym (spanAt-as (d .args .s .now) (d .args .at) (d .pre .0 .lengths) (c .before .before .lengths .given .1))
 
--- src/lib.rt:164:1
 returns-4 : tie.Need-returns-4
 returns-4 c =
     let d = c .before .before .before .before .before .before in
@@ -94,7 +78,6 @@ returns-4 c =
     c .whole-entry2 .ensures
     ∙ rw (c .before .read-u32 .ensures .0) (sym (spanAt-as s (d .args .at) (d .pre .0 .lengths) (c .before .before .before .enum-told .given .1) ∙ simp (le-ltb _ _ h)))
 
--- src/lib.rt:164:1
 returns-5 : tie.Need-returns-5
 returns-5 c =
     let d = c .before .before .before .before .before in

@@ -8,17 +8,14 @@ use Rattle.sgpd.proofs.whole_entry.Tie as tie
 use Rattle.sgpd.proofs.whole_entry.Reads as reads
 use Rattle.sgpd.proofs.whole_entry.Lts as lts
 
--- src/lib.rt:157:8
 sub-if1 : tie.Need-sub-if1
 sub-if1 c = search needs
 
--- src/lib.rt:158:9
 returns : tie.Need-returns
 returns c =
     let h : length (c .before .args .s .now) < c .before .args .place + c .before .args .size = omega arith in
     simp (lt-ltb _ _ h)
 
--- src/lib.rt:153:1
 returns-2 : tie.Need-returns-2
 returns-2 c =
     let h : c .before .args .place + c .before .args .size ≤ length (c .before .args .s .now) = omega arith in

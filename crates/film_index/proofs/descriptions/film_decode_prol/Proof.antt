@@ -1,51 +1,22 @@
-use mathlib.Core.Path.{refl, ap}
-use mathlib.Core.List.{List}
-use lib.IntN.{ℤ}
-use lib.ListN.{set}
-use mir.Syntax.{w16}
-use mir.Facts.{toZ-ofZ}
 use borrow.Author.Needs.{needs}
 use Rattle.film_index.proofs.descriptions.film_decode_prol.Statement.{statement}
 use Rattle.film_index.proofs.descriptions.film_decode_prol.Tie as tie
 use Rattle.film_index.proofs.descriptions.film_decode_prol.Reads as reads
 use Rattle.film_index.proofs.descriptions.film_decode_prol.Lts as lts
 use Rattle.entries.proofs.decode_prol.Reads as decode-prol-reads
+use Rattle.film_index.proofs.descriptions.put_roll.Reads as put-roll-reads
 
--- src/descriptions.rt:86:9
+-- src/descriptions.rt:92:14
 decode-prol-requires : tie.Need-decode-prol-requires
 decode-prol-requires c κs = search needs
 
--- src/descriptions.rt:88:27
-enum-known-read : tie.Need-enum-known-read
-enum-known-read c = search needs
+-- src/descriptions.rt:92:5
+put-roll-requires : tie.Need-put-roll-requires
+put-roll-requires c κs = search needs
 
--- src/descriptions.rt:90:13
-element-set-from-distance : tie.Need-element-set-from-distance
-element-set-from-distance c = search needs
-
--- src/descriptions.rt:93:30
-enum-known-read-2 : tie.Need-enum-known-read-2
-enum-known-read-2 c = search needs
-
--- src/descriptions.rt:82:1
+-- src/descriptions.rt:88:1
 returns : tie.Need-returns
-returns c =
-    let before = c .before .before .before .before .before .before .args .out .now in
-    rw (← c .before .before .before .before .decode-prol .ensures)
-    (rw (c .before .before .read .given .1)
-    (record { status = refl; out = ap (λ (d : ℤ). set before 0 d) (toZ-ofZ {w = w16} (record { sfits = c .struct-told .given .0 .1 })) }))
-
--- src/descriptions.rt:82:1
-returns-2 : tie.Need-returns-2
-returns-2 c = rw (← c .before .before .before .decode-prol .ensures) (rw (c .before .read2 .given .1) (record { status = refl; out = refl }))
+returns c = rw (c .before .before .decode-prol .ensures) at (c .put-roll .ensures)
 
 pub film-decode-prol-spec : {M : Type 1} → statement M
-film-decode-prol-spec =
-    tie.close
-    (tie.spec
-    decode-prol-requires
-    enum-known-read
-    element-set-from-distance
-    enum-known-read-2
-    returns
-    returns-2)
+film-decode-prol-spec = tie.close (tie.spec decode-prol-requires put-roll-requires returns)

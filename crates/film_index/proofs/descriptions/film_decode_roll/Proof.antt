@@ -1,51 +1,22 @@
-use mathlib.Core.Path.{refl, ap}
-use mathlib.Core.List.{List}
-use lib.IntN.{ℤ}
-use lib.ListN.{set}
-use mir.Syntax.{w16}
-use mir.Facts.{toZ-ofZ}
 use borrow.Author.Needs.{needs}
 use Rattle.film_index.proofs.descriptions.film_decode_roll.Statement.{statement}
 use Rattle.film_index.proofs.descriptions.film_decode_roll.Tie as tie
 use Rattle.film_index.proofs.descriptions.film_decode_roll.Reads as reads
 use Rattle.film_index.proofs.descriptions.film_decode_roll.Lts as lts
 use Rattle.entries.proofs.decode_roll.Reads as decode-roll-reads
+use Rattle.film_index.proofs.descriptions.put_roll.Reads as put-roll-reads
 
--- src/descriptions.rt:70:9
+-- src/descriptions.rt:84:14
 decode-roll-requires : tie.Need-decode-roll-requires
 decode-roll-requires c κs = search needs
 
--- src/descriptions.rt:72:27
-enum-known-read : tie.Need-enum-known-read
-enum-known-read c = search needs
+-- src/descriptions.rt:84:5
+put-roll-requires : tie.Need-put-roll-requires
+put-roll-requires c κs = search needs
 
--- src/descriptions.rt:74:13
-element-set-from-distance : tie.Need-element-set-from-distance
-element-set-from-distance c = search needs
-
--- src/descriptions.rt:77:30
-enum-known-read-2 : tie.Need-enum-known-read-2
-enum-known-read-2 c = search needs
-
--- src/descriptions.rt:66:1
+-- src/descriptions.rt:80:1
 returns : tie.Need-returns
-returns c =
-    let before = c .before .before .before .before .before .before .args .out .now in
-    rw (← c .before .before .before .before .decode-roll .ensures)
-    (rw (c .before .before .read .given .1)
-    (record { status = refl; out = ap (λ (d : ℤ). set before 0 d) (toZ-ofZ {w = w16} (record { sfits = c .struct-told .given .0 .1 })) }))
-
--- src/descriptions.rt:66:1
-returns-2 : tie.Need-returns-2
-returns-2 c = rw (← c .before .before .before .decode-roll .ensures) (rw (c .before .read2 .given .1) (record { status = refl; out = refl }))
+returns c = rw (c .before .before .decode-roll .ensures) at (c .put-roll .ensures)
 
 pub film-decode-roll-spec : {M : Type 1} → statement M
-film-decode-roll-spec =
-    tie.close
-    (tie.spec
-    decode-roll-requires
-    enum-known-read
-    element-set-from-distance
-    enum-known-read-2
-    returns
-    returns-2)
+film-decode-roll-spec = tie.close (tie.spec decode-roll-requires put-roll-requires returns)
