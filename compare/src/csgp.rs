@@ -181,13 +181,13 @@ const WIDE: Shape = Shape { index: 1, count: 3, length: 1, parameter: false };
 
 pub fn vectors(out: &mut Vectors) {
     let mut random = Random::new(8);
-    let seams: [&[Pattern]; 4] = [
+    let worked: [&[Pattern]; 4] = [
         &[(3, 7, vec![1, 2, 2])],
         &[(1, 2, vec![5]), (2, 3, vec![5, 6])],
         &[(1, 0, vec![7]), (1, 1, vec![8])],
         &[(0, 1, vec![])],
     ];
-    for patterns in seams {
+    for patterns in worked {
         let s = payload(&mut random, WIDE, patterns.len() as u32, patterns).unwrap();
         for len in [s.len(), s.len() - 1] {
             tables::sample(out, 6, &s[..len], 0, sample_groups::parse_csgp(&s[..len]));
@@ -214,9 +214,9 @@ pub fn vectors(out: &mut Vectors) {
 /// Answers that document 01 gives and the Rust cannot: a run too long for it, and want of records.
 pub fn document(out: &mut Vectors) {
     let mut random = Random::new(9);
-    let mut add = |lent: u64, patterns: &[Pattern], answer: Answer<Vec<u64>>| {
+    let mut add = |numbers: u64, patterns: &[Pattern], answer: Answer<Vec<u64>>| {
         let s = payload(&mut random, WIDE, patterns.len() as u32, patterns).unwrap();
-        out.add(6, &[lent], &s, answer);
+        out.add(6, &[numbers], &s, answer);
     };
     let rap = u32::from_be_bytes(*b"rap ") as u64;
     let most = u32::MAX;

@@ -65,8 +65,8 @@ pub fn run(tally: &mut Tally) {
 
 pub fn vectors(out: &mut Vectors) {
     let mut random = Random::new(7);
-    let seams = payload(&mut random, 0, 3, &[(3, 1), (0, 9), (2, 1)]);
-    tables::sample(out, 5, &seams, 2, sample_groups::parse_sbgp(&seams));
+    let worked = payload(&mut random, 0, 3, &[(3, 1), (0, 9), (2, 1)]);
+    tables::sample(out, 5, &worked, 2, sample_groups::parse_sbgp(&worked));
     for _ in 0..120 {
         let rows: Vec<(u32, u32)> = (0..random.below(5)).map(|_| (random.pick(&[0, 1, 5, u32::MAX]), random.below(4) as u32)).collect();
         let version = random.below(3) as u8;

@@ -10,14 +10,14 @@ use lib.Seq.{ext-getD}
 use borrow.Author.Tests.{lt-ltb, le-ltb, le-leb, lt-leb, leb-true, leb-false, eq-eqb, ne-eqb}
 use Rattle.fields.specs.Answer.{choose}
 use Rattle.fields.specs.Number.{beAt}
-use Rattle.fields.proofs.Bits.{Bytes}
+use Rattle.fields.proofs.Bits.{Bytes, beAt-below}
 use Rattle.fields.proofs.Bytes.{beAt-one}
 use Rattle.entries.specs.Decoded.{Point, OutputPair, offsetAt, pairAt, rollCount, offsetsEnd, Rap as RapFields, Sap as SapFields, Rash as RashFields, Alst as AlstFields, rapOf, teleOf, sapOf, rawOf, signed16, topBit, pointCount, pointsEnd, pointAt, upTo}
 use Rattle.entries.proofs.Extent.{rashAt, alstAt, single, several}
 use Rattle.alike.specs.Front.{frontOf, Agree}
 use Rattle.alike.specs.declared.EntryLayout.{EntryLayout}
 use Rattle.alike.specs.declared.EntryLayout.the-variants.{Roll, Rap, Tele, Sap, Rash, Alst, Raw}
-use Rattle.alike.proofs.Over.{Over, over-of-be, be-of-over, be-below, each-of-upTo, upTo-of-each}
+use Rattle.alike.proofs.Over.{Over, over-of-be, be-of-over, each-of-upTo, upTo-of-each}
 use Rattle.alike.proofs.Values.{valueOf, Sized}
 
 signed16-one : (x y : ℕ) → x < 65536 → y < 65536 → signed16 x ≡ signed16 y → x ≡ y
@@ -162,16 +162,16 @@ module _ (a b : List ℕ) where
 
   module _ (ba : Bytes a) (bb : Bytes b) where
     top : topBit (beAt 1 a 0) ≡ topBit (beAt 1 b 0) → beAt 1 a 0 / 128 ≡ beAt 1 b 0 / 128
-    top e = top-of-bit _ _ (be-below 1 a 0 ba) (be-below 1 b 0 bb) e
+    top e = top-of-bit _ _ (beAt-below 1 a 0 ba) (beAt-below 1 b 0 bb) e
 
     bit : beAt 1 a 0 / 128 ≡ beAt 1 b 0 / 128 → topBit (beAt 1 a 0) ≡ topBit (beAt 1 b 0)
-    bit e = bit-of-top _ _ (be-below 1 a 0 ba) (be-below 1 b 0 bb) e
+    bit e = bit-of-top _ _ (beAt-below 1 a 0 ba) (beAt-below 1 b 0 bb) e
 
 pub agree-of-value : (l : EntryLayout) (a b : List ℕ) → Bytes a → Bytes b → Sized l a → Sized l b → valueOf l a ≡ valueOf l b
     → (frontOf l a ≡ frontOf l b) × Agree l a b (frontOf l a)
 agree-of-value Roll a b ba bb sa sb e =
     let s : signed16 (beAt 2 a 0) ≡ signed16 (beAt 2 b 0) = cc in
-    (refl, λ i h. over-of-be 2 a b 0 ba bb (signed16-one _ _ (be-below 2 a 0 ba) (be-below 2 b 0 bb) s) i zero-le (omega arith))
+    (refl, λ i h. over-of-be 2 a b 0 ba bb (signed16-one _ _ (beAt-below 2 a 0 ba) (beAt-below 2 b 0 bb) s) i zero-le (omega arith))
 agree-of-value Rap a b ba bb sa sb e =
     let v = rap-fields e in
     let h = top a b ba bb (ap (λ (r : RapFields). r .known) v) in

@@ -1,7 +1,6 @@
 -- Two entries agree over a field's bytes exactly where the field's numbers are equal: laws over the place and the width.
 use mathlib.Core.Path.{_≡_, refl}
-use Prim.Native.Nat.{ℕ, zero, suc, _+_, _^_, _<_, _≤_}
-use native.Mathlib.Nat.{pow-suc}
+use Prim.Native.Nat.{ℕ, zero, suc, _+_, _<_, _≤_}
 use native.Mathlib.Decide.{decLt}
 use native.Mathlib.Omega.{arith}
 use mathlib.Core.List.{List}
@@ -32,11 +31,6 @@ be-of-over (suc w) a b p o =
     let high = be-of-over w a b p (λ i h l. o i h (omega arith)) in
     let low = o (p + w) (omega arith) (omega arith) in
     rw (high, low) refl
-
-pub be-below : (w : ℕ) (s : List ℕ) (p : ℕ) → Bytes s → beAt w s p < 256 ^ w
-unfolding beAt
-be-below zero s p bytes = omega arith
-be-below (suc w) s p bytes = rw pow-suc (omega (arith, be-below w s p bytes, bytes (p + w)))
 
 -- f and g agree at k, .., k + n - 1 exactly where their lists are equal
 module _ {A : Type 0} (f g : ℕ → A) where

@@ -1,7 +1,7 @@
 -- A field of bits is a digit of the big-endian number around it: laws over the field's place and width.
 use mathlib.Core.Path.{_≡_, refl, ap, sym, _∙_}
 use Prim.Native.Nat.{ℕ, zero, suc, _+_, _-_, _*_, _/_, _%_, _^_, _<_, _≤_}
-use native.Mathlib.Nat.{add-zero, add-suc, add-assoc, mul-assoc, pow-suc, mul-add-div-right, mod-one}
+use native.Mathlib.Nat.{add-zero, add-suc, add-assoc, mul-assoc, pow-suc, mul-add-div-right, mod-one, div-one, mod-eq-of-lt}
 use native.Mathlib.Decide.{decLt}
 use native.Mathlib.Numerals.{add-one}
 use native.Mathlib.Omega.{arith}
@@ -56,3 +56,23 @@ bits-of (suc w) n s b o bytes h =
     bits-of w n s b o bytes (omega arith) ∙ rw e (rw (← shr-shr (beAt n s b) k 1) refl) in
     let j : bitAt s (8 * b + o + w) ≡ y % 2 = rw (add-assoc (8 * b) o w) (sym (bit-of n s b (o + w) bytes (omega arith)) ∙ rw f refl) in
     rw (i, j) (sym (mod-pow-add y w 1) ∙ ap (λ (m : ℕ). y % 2 ^ m) (add-one w))
+
+-- a number of w bytes is below 256 to the w
+pub beAt-below : (w : ℕ) (s : List ℕ) (p : ℕ) → Bytes s → beAt w s p < 256 ^ w
+unfolding beAt
+beAt-below zero s p bytes = omega arith
+beAt-below (suc w) s p bytes = rw pow-suc (omega (arith, beAt-below w s p bytes, bytes (p + w)))
+
+bits-in : (w : ℕ) → 2 ^ (8 * w) ≡ 256 ^ w
+bits-in zero = refl
+bits-in (suc w) =
+    let e : 8 * suc w ≡ 8 * w + 8 = omega arith in
+    rw (e, pow-add 2 (8 * w) 8, bits-in w, pow-suc 256 w) refl
+
+-- the bytes from place p and the bits from bit place 8 p are one number
+pub bytes-as-bits : (w : ℕ) (s : List ℕ) (p : ℕ) → Bytes s → bitsAt (8 * w) s (8 * p) ≡ beAt w s p
+bytes-as-bits w s p bytes =
+    let e : 8 * w - 0 - 8 * w ≡ 0 = omega arith in
+    let small : beAt w s p < 2 ^ (8 * w) = rw bits-in (beAt-below w s p bytes) in
+    let b = rw (add-zero (8 * p), e) at (bits-of (8 * w) w s p 0 bytes (omega arith)) in
+    b ∙ rw (div-one (beAt w s p)) (mod-eq-of-lt small)

@@ -6,8 +6,6 @@ ghost use Rattle.fields.specs.Answer.{andThen, given};
 ghost use Rattle.sgpd.specs.Sgpd.{parseSgpd, entryAt, partOf, implicitLength, entryCount, countPlace, spanAt, spans, pick, sgpd};
 ghost use Rattle.sgpd.specs.Told.{toldSgpd, toldEntry};
 ghost use Rattle.sgpd.specs.Head.{headOf, headAt, toldHead, countAt, lengthsBy, toldSpan, whole, after, toldMove, HeadOf, ReadWhole, OnEntry, movedTo, Stepped, Among};
-
-// The number of a description, counted from 1; 0 is none.
 use fields::INPUT_LIMIT;
 use rows::DescriptionIndex;
 

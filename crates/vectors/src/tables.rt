@@ -5,20 +5,20 @@ use crate::numbers;
 use crate::numbers::DIFFERS;
 
 // The record's numbers are the table's head and then its rows.
-pub(crate) fn sbgp(s: &[u8], lent: u64, expected: &[u8]) -> u32 {
+pub(crate) fn sbgp(s: &[u8], room: u64, expected: &[u8]) -> u32 {
     let mut space = [0u32; 128];
-    if 128 < lent {
+    if 128 < room {
         return DIFFERS;
     }
-    sbgp_into(s, &mut space[..lent as usize], expected)
+    sbgp_into(s, &mut space[..room as usize], expected)
 }
 
-pub(crate) fn csgp(s: &[u8], lent: u64, expected: &[u8]) -> u32 {
+pub(crate) fn csgp(s: &[u8], room: u64, expected: &[u8]) -> u32 {
     let mut space = [0u32; 128];
-    if 128 < lent {
+    if 128 < room {
         return DIFFERS;
     }
-    csgp_into(s, &mut space[..lent as usize], expected)
+    csgp_into(s, &mut space[..room as usize], expected)
 }
 
 fn sbgp_into(s: &[u8], rows: &mut [u32], expected: &[u8]) -> u32 {
