@@ -181,7 +181,7 @@ fn boundaries(tally: &mut Tally) {
     input.check();
 }
 
-/// Every input of up to seven bytes, and every header of eight, over a small alphabet.
+/// Every input of up to nine bytes over a small alphabet.
 fn exhaustive(tally: &mut Tally) {
     const ALPHABET: [u8; 4] = [0, 1, 7, 8];
     for len in 0..=9u32 {
