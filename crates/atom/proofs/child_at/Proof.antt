@@ -10,31 +10,24 @@ use Rattle.atom.proofs.child_at.Lts as lts
 use Rattle.atom.proofs.child_of.Reads as child-of-reads
 use Rattle.atom.proofs.read_atom_header.Reads as read-atom-header-reads
 
--- src/lib.rt:161:9
 read-atom-header-requires : tie.Need-read-atom-header-requires
 read-atom-header-requires c κs = search needs
 
--- src/lib.rt:162:28
 enum-known-read : tie.Need-enum-known-read
 enum-known-read c = search needs
 
--- src/lib.rt:164:33
 enum-known-read-2 : tie.Need-enum-known-read-2
 enum-known-read-2 c = search needs
 
--- src/lib.rt:164:39
 returns : tie.Need-returns
 returns c = rw (← c .before .before .before .before .read-atom-header .ensures) (rw (c .before .read2 .given .1) refl)
 
--- src/lib.rt:165:18
 returns-2 : tie.Need-returns-2
 returns-2 c = rw (← c .before .before .read-atom-header .ensures) (rw (is-nothing (c .before .before .read-atom-header .result) (c .before .match .keys2) (c .match2 .keys2)) refl)
 
--- src/lib.rt:168:5
 child-of-requires : tie.Need-child-of-requires
 child-of-requires c κs = header-sound _ _ (sym (c .before .before .before .read-atom-header .ensures) ∙ ap toldHeader (c .before .read .given .1))
 
--- src/lib.rt:156:1
 returns-3 : tie.Need-returns-3
 returns-3 c = rw (← c .before .before .before .before .read-atom-header .ensures) (rw (c .before .before .read .given .1) (c .child-of .ensures))
 

@@ -6,23 +6,18 @@ use Rattle.atom.proofs.child_inside.Tie as tie
 use Rattle.atom.proofs.child_inside.Reads as reads
 use Rattle.atom.proofs.child_inside.Lts as lts
 
--- src/lib.rt:127:23
 enum-known-end : tie.Need-enum-known-end
 enum-known-end c = search needs
 
--- src/lib.rt:134:31
 enum-told : tie.Need-enum-told
 enum-told c = search needs
 
--- src/lib.rt:123:1
 returns : tie.Need-returns
 returns c = rw (c .before .before .end .given .1) (simp (lt-ltb _ _ (c .if1 .taken)))
 
--- src/lib.rt:123:1
 returns-2 : tie.Need-returns-2
 returns-2 c = rw (c .before .before .end .given .1) (simp (le-ltb _ _ (c .if1 .left)))
 
--- src/lib.rt:123:1
 returns-3 : tie.Need-returns-3
 returns-3 c = rw (c .enum-told .given .1) refl
 

@@ -10,41 +10,32 @@ use Rattle.atom.proofs.child_of.Reads as reads
 use Rattle.atom.proofs.child_of.Lts as lts
 use Rattle.atom.proofs.child_inside.Reads as child-inside-reads
 
--- src/lib.rt:147:26
 enum-known-size : tie.Need-enum-known-size
 enum-known-size c = search needs
 
--- src/lib.rt:147:48
 add-child-inside : tie.Need-add-child-inside
 add-child-inside c = omega (arith, (rw (c .before .size .given .1) at (c .before .before .before .pre .ends)) .1)
 
--- src/lib.rt:147:32
 child-inside-requires : tie.Need-child-inside-requires
 child-inside-requires c κs = search needs
 
--- src/lib.rt:148:28
 enum-told : tie.Need-enum-told
 enum-told c = search needs
 
--- src/lib.rt:149:27
 enum-known-end : tie.Need-enum-known-end
 enum-known-end c = search needs
 
--- src/lib.rt:150:35
 enum-told-2 : tie.Need-enum-told-2
 enum-told-2 c = search needs
 
--- src/lib.rt:139:1
 returns : tie.Need-returns
 returns c = let a = c .before .before .before .before .args in
     c .child-inside .ensures ∙ child-sized (a .at) (headerOf (a .h)) (sizeOf (a .h .«total_size»)) (parentEnd (a .end)) (c .before .before .size .given .0 .0) (ap sizeOf (c .before .before .size .given .1))
 
--- src/lib.rt:139:1
 returns-2 : tie.Need-returns-2
 returns-2 c = let a = c .before .before .before .before .before .args in
     child-open (a .at) (headerOf (a .h)) (sizeOf (a .h .«total_size»)) (parentEnd (a .end)) (c .before .end .given .0 .0) (ap sizeOf (c .before .before .before .enum-told .given .1)) (ap parentEnd (c .before .end .given .1))
 
--- src/lib.rt:139:1
 returns-3 : tie.Need-returns-3
 returns-3 c = search needs
 

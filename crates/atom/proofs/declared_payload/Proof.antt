@@ -10,46 +10,36 @@ use Rattle.atom.proofs.declared_payload.Reads as reads
 use Rattle.atom.proofs.declared_payload.Lts as lts
 use Rattle.atom.proofs.read_atom_header.Reads as read-atom-header-reads
 
--- src/lib.rt:194:9
 read-atom-header-requires : tie.Need-read-atom-header-requires
 read-atom-header-requires c κs = search needs
 
--- src/lib.rt:195:28
 enum-known-read : tie.Need-enum-known-read
 enum-known-read c = search needs
 
--- src/lib.rt:197:33
 enum-known-read-2 : tie.Need-enum-known-read-2
 enum-known-read-2 c = search needs
 
--- src/lib.rt:197:39
 returns : tie.Need-returns
 unfolding declaredAt
 returns c = rw (← c .before .before .before .before .read-atom-header .ensures) (rw (c .before .read2 .given .1) refl)
 
--- src/lib.rt:198:18
 returns-2 : tie.Need-returns-2
 unfolding declaredAt
 returns-2 c = rw (← c .before .before .read-atom-header .ensures) (rw (is-nothing (c .before .before .read-atom-header .result) (c .before .match .keys2) (c .match2 .keys2)) refl)
 
--- src/lib.rt:203:26
 enum-known-total : tie.Need-enum-known-total
 enum-known-total c = search needs
 
--- src/lib.rt:203:71
 sub-t9 : tie.Need-sub-t9
 sub-t9 c = let k = header-sound _ _ (sym (c .before .before .before .before .before .before .before .read-atom-header .ensures) ∙ ap toldHeader (c .before .before .before .before .before .read .given .1)) in (rw (c .before .before .total .given .1) at (k .ends)) .0
 
--- src/lib.rt:204:28
 enum-told : tie.Need-enum-told
 enum-told c = search needs
 
--- src/lib.rt:191:1
 returns-3 : tie.Need-returns-3
 unfolding declaredAt
 returns-3 c = rw (← c .before .before .before .before .before .before .before .read-atom-header .ensures) (rw (c .before .before .before .before .before .read .given .1) (rw (c .before .before .total .given .1) refl))
 
--- src/lib.rt:191:1
 returns-4 : tie.Need-returns-4
 unfolding declaredAt
 returns-4 c = rw (← c .before .before .before .before .before .read-atom-header .ensures) (rw (c .before .before .before .read .given .1) (rw (c .enum-told .given .1) refl))

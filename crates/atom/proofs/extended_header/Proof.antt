@@ -9,48 +9,37 @@ use Rattle.atom.proofs.extended_header.Lts as lts
 use Rattle.fields.proofs.read_u32.Reads as read-u32-reads
 use Rattle.fields.proofs.read_u64.Reads as read-u64-reads
 
--- src/lib.rt:86:18
 add-if1 : tie.Need-add-if1
 add-if1 c = search needs
 
--- src/lib.rt:87:9
 returns : tie.Need-returns
 returns c = let a = c .before .before .args in extended-cut (a .s .now) (a .at) (c .if1 .taken)
 
--- src/lib.rt:89:36
 add-read-u64 : tie.Need-add-read-u64
 add-read-u64 c = search needs
 
--- src/lib.rt:89:9
 read-u64-requires : tie.Need-read-u64-requires
 read-u64-requires c κs = search needs
 
--- src/lib.rt:91:9
 returns-2 : tie.Need-returns-2
 returns-2 c = let a = c .before .before .before .before .args in extended-small (a .s .now) (a .at) (c .before .before .if1 .left) (c .before .read-u64 .result) (c .before .read-u64 .ensures .0) (c .if2 .taken)
 
--- src/lib.rt:93:8
 sub-if3 : tie.Need-sub-if3
 sub-if3 c = search needs
 
--- src/lib.rt:94:9
 returns-3 : tie.Need-returns-3
 returns-3 c = let a = c .before .before .before .before .before .args in
     extended-far (a .s .now) (a .at) (c .before .before .before .if1 .left) (c .before .before .read-u64 .result) (c .before .before .read-u64 .ensures .0) (c .before .if2 .left) (omega arith)
 
--- src/lib.rt:97:37
 add-read-u32 : tie.Need-add-read-u32
 add-read-u32 c = search needs
 
--- src/lib.rt:97:17
 read-u32-requires : tie.Need-read-u32-requires
 read-u32-requires c κs = search needs
 
--- src/lib.rt:100:25
 add-t8 : tie.Need-add-t8
 add-t8 c = search needs
 
--- src/lib.rt:82:1
 returns-4 : tie.Need-returns-4
 returns-4 c = let a = c .before .before .before .before .before .before .args in
     extended-given (a .s .now) (a .at) (c .before .before .before .before .if1 .left) (c .before .before .before .read-u64 .result) (c .before .before .before .read-u64 .ensures .0) (c .before .before .if2 .left) (omega arith) (c .read-u32 .result) (c .read-u32 .ensures .0)

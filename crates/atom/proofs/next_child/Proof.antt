@@ -8,37 +8,29 @@ use Rattle.atom.proofs.next_child.Reads as reads
 use Rattle.atom.proofs.next_child.Lts as lts
 use Rattle.atom.proofs.child_at.Reads as child-at-reads
 
--- src/lib.rt:176:9
 returns : tie.Need-returns
 returns c = let a = c .before .before .args in child-long (a .s .now) (a .at) (parentEnd (a .end)) (c .if1 .taken)
 
--- src/lib.rt:179:23
 enum-known-end : tie.Need-enum-known-end
 enum-known-end c = search needs
 
--- src/lib.rt:183:17
 child-at-requires : tie.Need-child-at-requires
 child-at-requires c κs = search needs
 
--- src/lib.rt:186:31
 enum-told : tie.Need-enum-told
 enum-told c = search needs
 
--- src/lib.rt:186:31
 child-at-requires-2 : tie.Need-child-at-requires-2
 child-at-requires-2 c κs = search needs
 
--- src/lib.rt:172:1
 returns-2 : tie.Need-returns-2
 returns-2 c = let a = c .before .before .before .before .before .before .args in
     child-done (a .s .now) (a .at) (parentEnd (a .end)) (c .before .before .before .before .if1 .left) (c .before .before .end .given .0 .0) (ap parentEnd (c .before .before .end .given .1)) (c .if2 .taken)
 
--- src/lib.rt:172:1
 returns-3 : tie.Need-returns-3
 returns-3 c = let a = c .before .before .before .before .before .before .before .args in
     c .child-at .ensures ∙ child-before (a .s .now) (a .at) (parentEnd (a .end)) (c .before .before .before .before .before .if1 .left) (c .before .before .before .end .given .0 .0) (ap parentEnd (c .before .before .before .end .given .1)) (c .before .if2 .left)
 
--- src/lib.rt:172:1
 returns-4 : tie.Need-returns-4
 returns-4 c = let a = c .before .before .before .before .before .args in
     c .child-at2 .ensures ∙ child-unknown (a .s .now) (a .at) (parentEnd (a .end)) (c .before .before .before .if1 .left) (ap parentEnd (c .before .enum-told .given .1))

@@ -5,19 +5,15 @@ use Rattle.atom.proofs.present_payload.Tie as tie
 use Rattle.atom.proofs.present_payload.Reads as reads
 use Rattle.atom.proofs.present_payload.Lts as lts
 
--- src/lib.rt:214:9
 returns : tie.Need-returns
 returns c = simp (lt-ltb _ _ (c .if1 .taken))
 
--- src/lib.rt:216:27
 add-if2 : tie.Need-add-if2
 add-if2 c = search needs
 
--- src/lib.rt:217:9
 returns-2 : tie.Need-returns-2
 returns-2 c = simp (le-ltb _ _ (c .before .if1 .left), lt-ltb _ _ (c .if2 .taken))
 
--- src/lib.rt:209:1
 returns-3 : tie.Need-returns-3
 returns-3 c = simp (le-ltb _ _ (c .before .if1 .left), le-ltb _ _ (c .if2 .left))
 

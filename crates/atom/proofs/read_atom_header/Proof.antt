@@ -8,27 +8,21 @@ use Rattle.atom.proofs.read_atom_header.Reads as reads
 use Rattle.atom.proofs.read_atom_header.Lts as lts
 use Rattle.atom.proofs.header_by_size.Reads as header-by-size-reads
 
--- src/lib.rt:110:9
 returns : tie.Need-returns
 returns c = header-long _ _ (c .if1 .taken)
 
--- src/lib.rt:113:9
 returns-2 : tie.Need-returns-2
 returns-2 c = header-none _ _ (c .before .if1 .left) (c .if2 .taken)
 
--- src/lib.rt:116:12
 add-if3 : tie.Need-add-if3
 add-if3 c = search needs
 
--- src/lib.rt:117:9
 returns-3 : tie.Need-returns-3
 returns-3 c = header-cut _ _ (c .before .before .if1 .left) (c .before .if2 .left) (c .if3 .taken)
 
--- src/lib.rt:119:5
 header-by-size-requires : tie.Need-header-by-size-requires
 header-by-size-requires c κs = search needs
 
--- src/lib.rt:105:1
 returns-4 : tie.Need-returns-4
 returns-4 c = c .header-by-size .ensures ∙ header-whole _ _ (c .before .before .before .if1 .left) (c .before .before .if2 .left) (c .before .if3 .left)
 

@@ -14,23 +14,18 @@ use Rattle.atom.proofs.read_payload.Lts as lts
 use Rattle.atom.proofs.declared_payload.Reads as declared-payload-reads
 use Rattle.atom.proofs.present_payload.Reads as present-payload-reads
 
--- src/lib.rt:226:9
 declared-payload-requires : tie.Need-declared-payload-requires
 declared-payload-requires c κs = search needs
 
--- src/lib.rt:227:27
 enum-known-body : tie.Need-enum-known-body
 enum-known-body c = search needs
 
--- src/lib.rt:228:9
 returns : tie.Need-returns
 returns c = rw (← c .before .declared-payload .ensures) (no-body (c .before .declared-payload .result) (present (c .before .before .before .args .s .now) none) (c .match .keys2))
 
--- src/lib.rt:230:5
 present-payload-requires : tie.Need-present-payload-requires
 present-payload-requires c κs = declared-fits _ _ (sym (c .before .before .before .declared-payload .ensures) ∙ ap toldPayload (c .before .body .given .1))
 
--- src/lib.rt:223:1
 returns-2 : tie.Need-returns-2
 returns-2 c = rw (← c .before .before .before .before .declared-payload .ensures) (rw (c .before .before .body .given .1) (c .present-payload .ensures))
 

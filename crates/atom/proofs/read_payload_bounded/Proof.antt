@@ -15,27 +15,21 @@ use Rattle.atom.proofs.read_payload_bounded.Lts as lts
 use Rattle.atom.proofs.declared_payload.Reads as declared-payload-reads
 use Rattle.atom.proofs.present_payload.Reads as present-payload-reads
 
--- src/lib.rt:237:9
 declared-payload-requires : tie.Need-declared-payload-requires
 declared-payload-requires c κs = search needs
 
--- src/lib.rt:238:27
 enum-known-body : tie.Need-enum-known-body
 enum-known-body c = search needs
 
--- src/lib.rt:239:9
 returns : tie.Need-returns
 returns c = rw (← c .before .declared-payload .ensures) (no-body (c .before .declared-payload .result) (present (c .before .before .before .args .s .now) (some (c .before .before .before .args .max-remaining))) (c .match .keys2))
 
--- src/lib.rt:242:9
 returns-2 : tie.Need-returns-2
 returns-2 c = rw (← c .before .before .before .before .declared-payload .ensures) (rw (c .before .before .body .given .1) (simp (lt-ltb _ _ (c .if1 .taken))))
 
--- src/lib.rt:244:5
 present-payload-requires : tie.Need-present-payload-requires
 present-payload-requires c κs = declared-fits _ _ (sym (c .before .before .before .before .declared-payload .ensures) ∙ ap toldPayload (c .before .before .body .given .1))
 
--- src/lib.rt:234:1
 returns-3 : tie.Need-returns-3
 returns-3 c = rw (← c .before .before .before .before .before .declared-payload .ensures)
     (rw (c .before .before .before .body .given .1)

@@ -8,19 +8,15 @@ use Rattle.fields.proofs.byte_or_zero.Tie as tie
 use Rattle.fields.proofs.byte_or_zero.Reads as reads
 use Rattle.fields.proofs.byte_or_zero.Lts as lts
 
--- src/lib.rt:40:9
 shared-slice-read-result : tie.Need-shared-slice-read-result
 shared-slice-read-result c = search needs
 
--- src/lib.rt:40:9
 cast-result : tie.Need-cast-result
 cast-result c = omega (arith, c .shared-slice-known .given (c .before .before .args .at))
 
--- src/lib.rt:36:1
 returns : tie.Need-returns
 returns c = (sym (beAt-one _ _), omega (arith, c .shared-slice-known .given (c .before .before .args .at)))
 
--- src/lib.rt:36:1
 returns-2 : tie.Need-returns-2
 returns-2 c = (sym (beAt-one _ _ ∙ List·getD-eq-default (c .before .args .s .now) 0 (c .if1 .left)), omega arith)
 

@@ -11,31 +11,24 @@ use Rattle.fields.proofs.read_bits.Reads as reads
 use Rattle.fields.proofs.read_bits.Lts as lts
 use Rattle.fields.proofs.window.Reads as window-reads
 
--- src/lib.rt:61:19
 cast-skipped : tie.Need-cast-skipped
 cast-skipped c = search needs
 
--- src/lib.rt:62:19
 window-requires : tie.Need-window-requires
 window-requires c κs = search needs
 
--- src/lib.rt:62:41
 sub-shifted : tie.Need-sub-shifted
 sub-shifted c = search needs
 
--- src/lib.rt:62:41
 sub-shifted-2 : tie.Need-sub-shifted-2
 sub-shifted-2 c = search needs
 
--- src/lib.rt:62:41
 cast-shifted : tie.Need-cast-shifted
 cast-shifted c = search needs
 
--- src/lib.rt:62:19
 shr-shifted : tie.Need-shr-shifted
 shr-shifted c = search needs
 
--- src/lib.rt:63:17
 shl-result : tie.Need-shl-result
 shl-result c = search needs
 
@@ -43,17 +36,14 @@ shl-result c = search needs
 divisor : (w : ℕ) → w ≤ 32 → (1 * 2 ^ w) % 18446744073709551616 ≡ 2 ^ w
 divisor w h = rw one-mul (mod-eq-of-lt (pow-lt {i = w} {j = 64} (omega arith)))
 
--- src/lib.rt:63:6
 rem-result : tie.Need-rem-result
 rem-result c = rw (divisor (c .before .before .args .width) (omega arith)) (pow-pos _)
 
--- src/lib.rt:63:5
 cast-result : tie.Need-cast-result
 cast-result c =
     let w = c .before .before .args .width in
     rw (divisor w (omega arith)) (record { fits = lt-of-lt-of-le (mod-lt _ (pow-pos w)) (pow-mono {i = w} {j = 32} (omega arith)) })
 
--- src/lib.rt:57:1
 returns : tie.Need-returns
 returns c =
     let a = c .before .before .args in

@@ -7,35 +7,27 @@ use Rattle.fields.proofs.read_u16.Reads as reads
 use Rattle.fields.proofs.read_u16.Lts as lts
 use Rattle.fields.proofs.read_u8.Reads as read-u8-reads
 
--- src/lib.rt:18:6
 read-u8-requires : tie.Need-read-u8-requires
 read-u8-requires c κs = search needs
 
--- src/lib.rt:18:6
 cast-result : tie.Need-cast-result
 cast-result c = search needs
 
--- src/lib.rt:18:5
 mul-result : tie.Need-mul-result
 mul-result c = search needs
 
--- src/lib.rt:18:49
 add-read-u8 : tie.Need-add-read-u8
 add-read-u8 c = search needs
 
--- src/lib.rt:18:38
 read-u8-requires-2 : tie.Need-read-u8-requires-2
 read-u8-requires-2 c κs = search needs
 
--- src/lib.rt:18:38
 cast-result-2 : tie.Need-cast-result-2
 cast-result-2 c = search needs
 
--- src/lib.rt:18:5
 add-result : tie.Need-add-result
 add-result c = search needs
 
--- src/lib.rt:14:1
 returns : tie.Need-returns
 returns c = (let a = c .before .before .before .args in omega (arith, beAt-split 1 1 (a .s .now) (a .at)), omega arith)
 

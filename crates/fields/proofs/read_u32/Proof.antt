@@ -7,35 +7,27 @@ use Rattle.fields.proofs.read_u32.Reads as reads
 use Rattle.fields.proofs.read_u32.Lts as lts
 use Rattle.fields.proofs.read_u16.Reads as read-u16-reads
 
--- src/lib.rt:25:6
 read-u16-requires : tie.Need-read-u16-requires
 read-u16-requires c κs = search needs
 
--- src/lib.rt:25:6
 cast-result : tie.Need-cast-result
 cast-result c = search needs
 
--- src/lib.rt:25:5
 mul-result : tie.Need-mul-result
 mul-result c = search needs
 
--- src/lib.rt:25:53
 add-read-u16 : tie.Need-add-read-u16
 add-read-u16 c = search needs
 
--- src/lib.rt:25:41
 read-u16-requires-2 : tie.Need-read-u16-requires-2
 read-u16-requires-2 c κs = search needs
 
--- src/lib.rt:25:41
 cast-result-2 : tie.Need-cast-result-2
 cast-result-2 c = search needs
 
--- src/lib.rt:25:5
 add-result : tie.Need-add-result
 add-result c = search needs
 
--- src/lib.rt:21:1
 returns : tie.Need-returns
 returns c = (let a = c .before .before .before .args in omega (arith, beAt-split 2 2 (a .s .now) (a .at)), omega arith)
 

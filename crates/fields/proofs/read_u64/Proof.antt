@@ -7,35 +7,27 @@ use Rattle.fields.proofs.read_u64.Reads as reads
 use Rattle.fields.proofs.read_u64.Lts as lts
 use Rattle.fields.proofs.read_u32.Reads as read-u32-reads
 
--- src/lib.rt:32:6
 read-u32-requires : tie.Need-read-u32-requires
 read-u32-requires c κs = search needs
 
--- src/lib.rt:32:6
 cast-result : tie.Need-cast-result
 cast-result c = search needs
 
--- src/lib.rt:32:5
 mul-result : tie.Need-mul-result
 mul-result c = search needs
 
--- src/lib.rt:32:58
 add-read-u32 : tie.Need-add-read-u32
 add-read-u32 c = search needs
 
--- src/lib.rt:32:46
 read-u32-requires-2 : tie.Need-read-u32-requires-2
 read-u32-requires-2 c κs = search needs
 
--- src/lib.rt:32:46
 cast-result-2 : tie.Need-cast-result-2
 cast-result-2 c = search needs
 
--- src/lib.rt:32:5
 add-result : tie.Need-add-result
 add-result c = search needs
 
--- src/lib.rt:28:1
 returns : tie.Need-returns
 returns c = (let a = c .before .before .before .args in omega (arith, beAt-split 4 4 (a .s .now) (a .at)), omega arith)
 

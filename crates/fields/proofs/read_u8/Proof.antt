@@ -6,11 +6,9 @@ use Rattle.fields.proofs.read_u8.Tie as tie
 use Rattle.fields.proofs.read_u8.Reads as reads
 use Rattle.fields.proofs.read_u8.Lts as lts
 
--- src/lib.rt:11:5
 shared-slice-read-result : tie.Need-shared-slice-read-result
 shared-slice-read-result c = search needs
 
--- src/lib.rt:7:1
 returns : tie.Need-returns
 returns c = (sym (beAt-one _ _), c .shared-slice-known .given (c .before .args .at) .fits)
 

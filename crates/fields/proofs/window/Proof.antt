@@ -9,111 +9,84 @@ use Rattle.fields.proofs.byte_or_zero.Reads as byte-or-zero-reads
 use Rattle.fields.proofs.read_u32.Reads as read-u32-reads
 use Rattle.fields.proofs.read_u8.Reads as read-u8-reads
 
--- src/lib.rt:49:8
 add-if1 : tie.Need-add-if1
 add-if1 c = search needs
 
--- src/lib.rt:50:17
 read-u32-requires : tie.Need-read-u32-requires
 read-u32-requires c κs = search needs
 
--- src/lib.rt:50:17
 cast-result : tie.Need-cast-result
 cast-result c = search needs
 
--- src/lib.rt:50:16
 mul-result : tie.Need-mul-result
 mul-result c = search needs
 
--- src/lib.rt:50:61
 add-read-u8 : tie.Need-add-read-u8
 add-read-u8 c = search needs
 
--- src/lib.rt:50:50
 read-u8-requires : tie.Need-read-u8-requires
 read-u8-requires c κs = search needs
 
--- src/lib.rt:50:50
 cast-result-2 : tie.Need-cast-result-2
 cast-result-2 c = search needs
 
--- src/lib.rt:50:16
 add-result : tie.Need-add-result
 add-result c = search needs
 
--- src/lib.rt:50:9
 returns : tie.Need-returns
 returns c = (let a = c .before .before .before .before .args in omega (arith, beAt-split 4 1 (a .s .now) (a .at)), omega arith)
 
--- src/lib.rt:52:16
 byte-or-zero-requires : tie.Need-byte-or-zero-requires
 byte-or-zero-requires c κs = search needs
 
--- src/lib.rt:52:16
 mul-high : tie.Need-mul-high
 mul-high c = search needs
 
--- src/lib.rt:52:65
 add-byte-or-zero : tie.Need-add-byte-or-zero
 add-byte-or-zero c = search needs
 
--- src/lib.rt:52:49
 byte-or-zero-requires-2 : tie.Need-byte-or-zero-requires-2
 byte-or-zero-requires-2 c κs = search needs
 
--- src/lib.rt:52:49
 mul-high-2 : tie.Need-mul-high-2
 mul-high-2 c = search needs
 
--- src/lib.rt:52:16
 add-high : tie.Need-add-high
 add-high c = search needs
 
--- src/lib.rt:53:31
 add-byte-or-zero-2 : tie.Need-add-byte-or-zero-2
 add-byte-or-zero-2 c = search needs
 
--- src/lib.rt:53:15
 byte-or-zero-requires-3 : tie.Need-byte-or-zero-requires-3
 byte-or-zero-requires-3 c κs = search needs
 
--- src/lib.rt:53:15
 mul-low : tie.Need-mul-low
 mul-low c = search needs
 
--- src/lib.rt:53:63
 add-byte-or-zero-3 : tie.Need-add-byte-or-zero-3
 add-byte-or-zero-3 c = search needs
 
--- src/lib.rt:53:47
 byte-or-zero-requires-4 : tie.Need-byte-or-zero-requires-4
 byte-or-zero-requires-4 c κs = search needs
 
--- src/lib.rt:53:15
 add-low : tie.Need-add-low
 add-low c = search needs
 
--- src/lib.rt:54:6
 add-result-2 : tie.Need-add-result-2
 add-result-2 c = search needs
 
--- src/lib.rt:54:5
 mul-result-2 : tie.Need-mul-result-2
 mul-result-2 c = search needs
 
--- src/lib.rt:54:42
 add-byte-or-zero-4 : tie.Need-add-byte-or-zero-4
 add-byte-or-zero-4 c = search needs
 
--- src/lib.rt:54:26
 byte-or-zero-requires-5 : tie.Need-byte-or-zero-requires-5
 byte-or-zero-requires-5 c κs = search needs
 
--- src/lib.rt:54:5
 add-result-3 : tie.Need-add-result-3
 add-result-3 c = search needs
 
--- src/lib.rt:45:1
 returns-2 : tie.Need-returns-2
 returns-2 c = (
   let a = c .before .before .before .before .before .before .before .args in

@@ -6,31 +6,24 @@ use Rattle.sbgp.proofs.next_row.Reads as reads
 use Rattle.sbgp.proofs.next_row.Lts as lts
 use Rattle.fields.proofs.read_u32.Reads as read-u32-reads
 
--- src/lib.rt:138:9
 returns : tie.Need-returns
 returns c = none-ahead _ _ _ (c .if1 .taken)
 
--- src/lib.rt:141:9
 read-u32-requires : tie.Need-read-u32-requires
 read-u32-requires c κs = search needs
 
--- src/lib.rt:142:29
 add-read-u32 : tie.Need-add-read-u32
 add-read-u32 c = search needs
 
--- src/lib.rt:142:9
 read-u32-requires-2 : tie.Need-read-u32-requires-2
 read-u32-requires-2 c κs = search needs
 
--- src/lib.rt:144:17
 add-t9 : tie.Need-add-t9
 add-t9 c = search needs
 
--- src/lib.rt:145:19
 sub-t10 : tie.Need-sub-t10
 sub-t10 c = search needs
 
--- src/lib.rt:131:1
 returns-2 : tie.Need-returns-2
 returns-2 c =
     let a = c .before .before .before .before .args in

@@ -8,35 +8,27 @@ use Rattle.vectors.proofs.differs.Lts as lts
 use Rattle.vectors.proofs.hex.decode.Reads as decode-reads
 use Rattle.vectors.proofs.record.agrees.Reads as agrees-reads
 
--- src/main.rt:34:9
 decode-requires : tie.Need-decode-requires
 decode-requires c κs = search needs
 
--- src/main.rt:35:23
 slice-reshare-prefix-agrees : tie.Need-slice-reshare-prefix-agrees
 slice-reshare-prefix-agrees c = search needs
 
--- src/main.rt:35:23
 slice-aggregate-agrees : tie.Need-slice-aggregate-agrees
 slice-aggregate-agrees c = sym (length-take-le _ _ (c .before .before .before .decode .ensures))
 
--- src/main.rt:35:8
 agrees-requires : tie.Need-agrees-requires
 agrees-requires c κs = search needs
 
--- src/main.rt:30:1
 same-length : tie.Need-same-length
 same-length c = search needs
 
--- src/main.rt:30:1
 returns : tie.Need-returns
 returns c = search needs
 
--- src/main.rt:30:1
 same-length-2 : tie.Need-same-length-2
 same-length-2 c = search needs
 
--- src/main.rt:30:1
 returns-2 : tie.Need-returns-2
 returns-2 c = search needs
 

@@ -7,19 +7,15 @@ use Rattle.atom.proofs.next_child.Reads as next-child-reads
 use Rattle.film_index.proofs.atoms.parent_end.Reads as parent-end-reads
 use Rattle.film_index.proofs.atoms.put_child.Reads as put-child-reads
 
--- src/atoms.rt:114:39
 parent-end-requires : tie.Need-parent-end-requires
 parent-end-requires c κs = search needs
 
--- src/atoms.rt:114:15
 next-child-requires : tie.Need-next-child-requires
 next-child-requires c κs = search needs
 
--- src/atoms.rt:114:5
 put-child-requires : tie.Need-put-child-requires
 put-child-requires c κs = search needs
 
--- src/atoms.rt:108:1
 returns : tie.Need-returns
 returns c = rw (c .before .before .before .parent-end .ensures) at (rw (c .before .before .next-child .ensures) at (c .put-child .ensures))
 

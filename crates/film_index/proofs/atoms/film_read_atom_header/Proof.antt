@@ -6,15 +6,12 @@ use Rattle.film_index.proofs.atoms.film_read_atom_header.Lts as lts
 use Rattle.atom.proofs.read_atom_header.Reads as read-atom-header-reads
 use Rattle.film_index.proofs.atoms.put_header.Reads as put-header-reads
 
--- src/atoms.rt:104:16
 read-atom-header-requires : tie.Need-read-atom-header-requires
 read-atom-header-requires c κs = search needs
 
--- src/atoms.rt:104:5
 put-header-requires : tie.Need-put-header-requires
 put-header-requires c κs = search needs
 
--- src/atoms.rt:98:1
 returns : tie.Need-returns
 returns c = rw (c .before .before .read-atom-header .ensures) at (c .put-header .ensures)
 

@@ -6,15 +6,12 @@ use Rattle.film_index.proofs.atoms.film_read_payload.Lts as lts
 use Rattle.atom.proofs.read_payload.Reads as read-payload-reads
 use Rattle.film_index.proofs.atoms.put_payload.Reads as put-payload-reads
 
--- src/atoms.rt:124:17
 read-payload-requires : tie.Need-read-payload-requires
 read-payload-requires c κs = search needs
 
--- src/atoms.rt:124:5
 put-payload-requires : tie.Need-put-payload-requires
 put-payload-requires c κs = search needs
 
--- src/atoms.rt:118:1
 returns : tie.Need-returns
 returns c = rw (c .before .before .read-payload .ensures) at (c .put-payload .ensures)
 

@@ -6,15 +6,12 @@ use Rattle.film_index.proofs.atoms.film_read_payload_bounded.Lts as lts
 use Rattle.atom.proofs.read_payload_bounded.Reads as read-payload-bounded-reads
 use Rattle.film_index.proofs.atoms.put_payload.Reads as put-payload-reads
 
--- src/atoms.rt:134:17
 read-payload-bounded-requires : tie.Need-read-payload-bounded-requires
 read-payload-bounded-requires c κs = search needs
 
--- src/atoms.rt:134:5
 put-payload-requires : tie.Need-put-payload-requires
 put-payload-requires c κs = search needs
 
--- src/atoms.rt:128:1
 returns : tie.Need-returns
 returns c = rw (c .before .before .read-payload-bounded .ensures) at (c .put-payload .ensures)
 

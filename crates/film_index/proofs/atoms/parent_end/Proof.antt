@@ -5,11 +5,9 @@ use Rattle.film_index.proofs.atoms.parent_end.Tie as tie
 use Rattle.film_index.proofs.atoms.parent_end.Reads as reads
 use Rattle.film_index.proofs.atoms.parent_end.Lts as lts
 
--- src/atoms.rt:33:1
 returns : tie.Need-returns
 returns c = simp (eq-eqb _ _ (c .if1 .taken))
 
--- src/atoms.rt:33:1
 returns-2 : tie.Need-returns-2
 returns-2 c = simp (ne-eqb _ _ (c .if1 .left))
 

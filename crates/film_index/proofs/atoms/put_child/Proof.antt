@@ -7,63 +7,48 @@ use Rattle.film_index.proofs.atoms.put_child.Lts as lts
 use Rattle.film_index.proofs.atoms.open_flag.Reads as open-flag-reads
 use Rattle.film_index.proofs.atoms.size_or_zero.Reads as size-or-zero-reads
 
--- src/atoms.rt:67:26
 enum-known-walked : tie.Need-enum-known-walked
 enum-known-walked c = search needs
 
--- src/atoms.rt:69:13
 element-write-out : tie.Need-element-write-out
 element-write-out c = search needs
 
--- src/atoms.rt:70:22
 cast-out : tie.Need-cast-out
 cast-out c = search needs
 
--- src/atoms.rt:70:13
 element-write-out-2 : tie.Need-element-write-out-2
 element-write-out-2 c = search needs
 
--- src/atoms.rt:71:22
 open-flag-requires : tie.Need-open-flag-requires
 open-flag-requires c κs = search needs
 
--- src/atoms.rt:71:13
 element-write-out-3 : tie.Need-element-write-out-3
 element-write-out-3 c = search needs
 
--- src/atoms.rt:72:22
 size-or-zero-requires : tie.Need-size-or-zero-requires
 size-or-zero-requires c κs = search needs
 
--- src/atoms.rt:72:13
 element-write-out-4 : tie.Need-element-write-out-4
 element-write-out-4 c = search needs
 
--- src/atoms.rt:73:13
 element-write-out-5 : tie.Need-element-write-out-5
 element-write-out-5 c = search needs
 
--- src/atoms.rt:74:13
 element-write-out-6 : tie.Need-element-write-out-6
 element-write-out-6 c = search needs
 
--- src/atoms.rt:77:28
 enum-told : tie.Need-enum-told
 enum-told c = search needs
 
--- src/atoms.rt:78:28
 enum-known-walked-2 : tie.Need-enum-known-walked-2
 enum-known-walked-2 c = search needs
 
--- src/atoms.rt:63:1
 returns : tie.Need-returns
 returns c = rw (c .before .before .before .before .walked .given .1) (record { status = refl; out = rw (c .size-or-zero .ensures, c .before .open-flag .ensures) refl })
 
--- src/atoms.rt:63:1
 returns-2 : tie.Need-returns-2
 returns-2 c = search needs
 
--- src/atoms.rt:63:1
 returns-3 : tie.Need-returns-3
 returns-3 c = search needs
 

@@ -7,59 +7,45 @@ use Rattle.film_index.proofs.atoms.put_header.Lts as lts
 use Rattle.film_index.proofs.atoms.open_flag.Reads as open-flag-reads
 use Rattle.film_index.proofs.atoms.size_or_zero.Reads as size-or-zero-reads
 
--- src/atoms.rt:48:28
 enum-known-read : tie.Need-enum-known-read
 enum-known-read c = search needs
 
--- src/atoms.rt:50:22
 cast-out : tie.Need-cast-out
 cast-out c = search needs
 
--- src/atoms.rt:50:13
 element-write-out : tie.Need-element-write-out
 element-write-out c = search needs
 
--- src/atoms.rt:51:22
 open-flag-requires : tie.Need-open-flag-requires
 open-flag-requires c κs = search needs
 
--- src/atoms.rt:51:13
 element-write-out-2 : tie.Need-element-write-out-2
 element-write-out-2 c = search needs
 
--- src/atoms.rt:52:22
 size-or-zero-requires : tie.Need-size-or-zero-requires
 size-or-zero-requires c κs = search needs
 
--- src/atoms.rt:52:13
 element-write-out-3 : tie.Need-element-write-out-3
 element-write-out-3 c = search needs
 
--- src/atoms.rt:53:13
 element-write-out-4 : tie.Need-element-write-out-4
 element-write-out-4 c = search needs
 
--- src/atoms.rt:54:13
 element-write-out-5 : tie.Need-element-write-out-5
 element-write-out-5 c = search needs
 
--- src/atoms.rt:57:32
 enum-told : tie.Need-enum-told
 enum-told c = search needs
 
--- src/atoms.rt:58:29
 enum-known-read-2 : tie.Need-enum-known-read-2
 enum-known-read-2 c = search needs
 
--- src/atoms.rt:44:1
 returns : tie.Need-returns
 returns c = rw (c .before .before .before .before .read .given .1) (record { status = refl; out = rw (c .size-or-zero .ensures, c .before .open-flag .ensures) refl })
 
--- src/atoms.rt:44:1
 returns-2 : tie.Need-returns-2
 returns-2 c = search needs
 
--- src/atoms.rt:44:1
 returns-3 : tie.Need-returns-3
 returns-3 c = search needs
 

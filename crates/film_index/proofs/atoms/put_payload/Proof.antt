@@ -5,35 +5,27 @@ use Rattle.film_index.proofs.atoms.put_payload.Tie as tie
 use Rattle.film_index.proofs.atoms.put_payload.Reads as reads
 use Rattle.film_index.proofs.atoms.put_payload.Lts as lts
 
--- src/atoms.rt:87:27
 enum-known-body : tie.Need-enum-known-body
 enum-known-body c = search needs
 
--- src/atoms.rt:88:13
 element-write-out : tie.Need-element-write-out
 element-write-out c = search needs
 
--- src/atoms.rt:89:13
 element-write-out-2 : tie.Need-element-write-out-2
 element-write-out-2 c = search needs
 
--- src/atoms.rt:92:33
 enum-told : tie.Need-enum-told
 enum-told c = search needs
 
--- src/atoms.rt:93:30
 enum-known-body-2 : tie.Need-enum-known-body-2
 enum-known-body-2 c = search needs
 
--- src/atoms.rt:83:1
 returns : tie.Need-returns
 returns c = rw (c .before .body .given .1) (record { status = refl; out = refl })
 
--- src/atoms.rt:83:1
 returns-2 : tie.Need-returns-2
 returns-2 c = search needs
 
--- src/atoms.rt:83:1
 returns-3 : tie.Need-returns-3
 returns-3 c = search needs
 

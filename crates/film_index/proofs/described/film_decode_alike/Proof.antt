@@ -6,39 +6,30 @@ use Rattle.film_index.proofs.described.film_decode_alike.Reads as reads
 use Rattle.film_index.proofs.described.film_decode_alike.Lts as lts
 use Rattle.alike.proofs.decode_alike.Reads as decode-alike-reads
 
--- src/described.rt:76:9
 decode-alike-requires : tie.Need-decode-alike-requires
 decode-alike-requires c κs = search needs
 
--- src/described.rt:79:13
 enum-told : tie.Need-enum-told
 enum-told c = search needs
 
--- src/described.rt:79:13
 element-write-out : tie.Need-element-write-out
 element-write-out c = search needs
 
--- src/described.rt:83:13
 enum-told-2 : tie.Need-enum-told-2
 enum-told-2 c = search needs
 
--- src/described.rt:83:13
 element-write-out-2 : tie.Need-element-write-out-2
 element-write-out-2 c = search needs
 
--- src/described.rt:86:24
 enum-known-read : tie.Need-enum-known-read
 enum-known-read c = search needs
 
--- src/described.rt:67:1
 returns : tie.Need-returns
 returns c = record { told = c .before .before .decode-alike .result; alike = c .before .before .decode-alike .ensures; returned = rw (c .enum-told .given .1) (record { status = refl; out = refl }) }
 
--- src/described.rt:67:1
 returns-2 : tie.Need-returns-2
 returns-2 c = record { told = c .before .before .decode-alike .result; alike = c .before .before .decode-alike .ensures; returned = rw (c .enum-told2 .given .1) (record { status = refl; out = refl }) }
 
--- src/described.rt:67:1
 returns-3 : tie.Need-returns-3
 returns-3 c = record { told = c .before .before .before .decode-alike .result; alike = c .before .before .before .decode-alike .ensures; returned = rw (c .before .read .given .1) (record { status = refl; out = refl }) }
 

@@ -6,63 +6,48 @@ use Rattle.film_index.proofs.described.film_described_place.Reads as re
 use Rattle.film_index.proofs.described.film_described_place.Lts as lts
 use Rattle.fragments.proofs.described_place.Reads as described-place-reads
 
--- src/described.rt:39:9
 described-place-requires : tie.Need-described-place-requires
 described-place-requires c κs = search needs
 
--- src/described.rt:41:25
 enum-known-read : tie.Need-enum-known-read
 enum-known-read c = search needs
 
--- src/described.rt:42:13
 element-write-out : tie.Need-element-write-out
 element-write-out c = search needs
 
--- src/described.rt:43:13
 element-write-out-2 : tie.Need-element-write-out-2
 element-write-out-2 c = search needs
 
--- src/described.rt:44:13
 element-write-out-3 : tie.Need-element-write-out-3
 element-write-out-3 c = search needs
 
--- src/described.rt:47:29
 enum-known-read-2 : tie.Need-enum-known-read-2
 enum-known-read-2 c = search needs
 
--- src/described.rt:48:13
 element-write-out-4 : tie.Need-element-write-out-4
 element-write-out-4 c = search needs
 
--- src/described.rt:49:13
 element-write-out-5 : tie.Need-element-write-out-5
 element-write-out-5 c = search needs
 
--- src/described.rt:50:13
 element-write-out-6 : tie.Need-element-write-out-6
 element-write-out-6 c = search needs
 
--- src/described.rt:53:31
 enum-told : tie.Need-enum-told
 enum-told c = search needs
 
--- src/described.rt:54:28
 enum-known-read-3 : tie.Need-enum-known-read-3
 enum-known-read-3 c = search needs
 
--- src/described.rt:30:1
 returns : tie.Need-returns
 returns c = rw (← c .before .before .before .described-place .ensures) (rw (c .before .read .given .1) (record { status = refl; out = refl }))
 
--- src/described.rt:30:1
 returns-2 : tie.Need-returns-2
 returns-2 c = rw (← c .before .before .before .described-place .ensures) (rw (c .before .read2 .given .1) (record { status = refl; out = refl }))
 
--- src/described.rt:30:1
 returns-3 : tie.Need-returns-3
 returns-3 c = rw (← c .before .before .described-place .ensures) (rw (c .enum-told .given .1) (record { status = refl; out = refl }))
 
--- src/described.rt:30:1
 returns-4 : tie.Need-returns-4
 returns-4 c = rw (← c .before .before .before .described-place .ensures) (rw (c .before .read3 .given .1) (record { status = refl; out = refl }))
 

@@ -7,27 +7,21 @@ use Rattle.film_index.proofs.described.film_split_csgp_index.Lts as lts
 use Rattle.film_index.proofs.descriptions.bit_of.Reads as bit-of-reads
 use Rattle.fragments.proofs.split_csgp_index.Reads as split-csgp-index-reads
 
--- src/described.rt:18:9
 split-csgp-index-requires : tie.Need-split-csgp-index-requires
 split-csgp-index-requires c κs = search needs
 
--- src/described.rt:19:14
 cast-out : tie.Need-cast-out
 cast-out c = search needs
 
--- src/described.rt:19:5
 element-write-out : tie.Need-element-write-out
 element-write-out c = search needs
 
--- src/described.rt:20:14
 bit-of-requires : tie.Need-bit-of-requires
 bit-of-requires c κs = search needs
 
--- src/described.rt:20:5
 element-write-out-2 : tie.Need-element-write-out-2
 element-write-out-2 c = search needs
 
--- src/described.rt:14:1
 returns : tie.Need-returns
 returns c = record { status = refl; out = rw (c .bit-of .ensures, c .before .before .split-csgp-index .ensures .0, c .before .before .split-csgp-index .ensures .1) refl }
 

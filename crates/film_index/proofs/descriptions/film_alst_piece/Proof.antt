@@ -6,47 +6,36 @@ use Rattle.film_index.proofs.descriptions.film_alst_piece.Reads as read
 use Rattle.film_index.proofs.descriptions.film_alst_piece.Lts as lts
 use Rattle.entries.proofs.alst_piece.Reads as alst-piece-reads
 
--- src/descriptions.rt:215:9
 alst-piece-requires : tie.Need-alst-piece-requires
 alst-piece-requires c κs = search needs
 
--- src/descriptions.rt:217:26
 enum-known-read : tie.Need-enum-known-read
 enum-known-read c = search needs
 
--- src/descriptions.rt:218:22
 cast-out : tie.Need-cast-out
 cast-out c = search needs
 
--- src/descriptions.rt:218:13
 element-write-out : tie.Need-element-write-out
 element-write-out c = search needs
 
--- src/descriptions.rt:219:22
 cast-out-2 : tie.Need-cast-out-2
 cast-out-2 c = search needs
 
--- src/descriptions.rt:219:13
 element-write-out-2 : tie.Need-element-write-out-2
 element-write-out-2 c = search needs
 
--- src/descriptions.rt:222:31
 enum-told : tie.Need-enum-told
 enum-told c = search needs
 
--- src/descriptions.rt:223:28
 enum-known-read-2 : tie.Need-enum-known-read-2
 enum-known-read-2 c = search needs
 
--- src/descriptions.rt:211:1
 returns : tie.Need-returns
 returns c = rw (← c .before .before .before .before .before .alst-piece .ensures) (rw (c .before .before .before .read .given .1) (record { status = refl; out = refl }))
 
--- src/descriptions.rt:211:1
 returns-2 : tie.Need-returns-2
 returns-2 c = rw (← c .before .before .alst-piece .ensures) (rw (c .enum-told .given .1) (record { status = refl; out = refl }))
 
--- src/descriptions.rt:211:1
 returns-3 : tie.Need-returns-3
 returns-3 c = rw (← c .before .before .before .alst-piece .ensures) (rw (c .before .read2 .given .1) (record { status = refl; out = refl }))
 

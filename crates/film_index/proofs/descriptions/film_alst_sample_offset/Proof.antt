@@ -6,39 +6,30 @@ use Rattle.film_index.proofs.descriptions.film_alst_sample_offset.Reads
 use Rattle.film_index.proofs.descriptions.film_alst_sample_offset.Lts as lts
 use Rattle.entries.proofs.alst_sample_offset.Reads as alst-sample-offset-reads
 
--- src/descriptions.rt:199:9
 alst-sample-offset-requires : tie.Need-alst-sample-offset-requires
 alst-sample-offset-requires c κs = search needs
 
--- src/descriptions.rt:201:28
 enum-known-read : tie.Need-enum-known-read
 enum-known-read c = search needs
 
--- src/descriptions.rt:202:22
 cast-out : tie.Need-cast-out
 cast-out c = search needs
 
--- src/descriptions.rt:202:13
 element-write-out : tie.Need-element-write-out
 element-write-out c = search needs
 
--- src/descriptions.rt:205:32
 enum-told : tie.Need-enum-told
 enum-told c = search needs
 
--- src/descriptions.rt:206:29
 enum-known-read-2 : tie.Need-enum-known-read-2
 enum-known-read-2 c = search needs
 
--- src/descriptions.rt:195:1
 returns : tie.Need-returns
 returns c = rw (← c .before .before .before .alst-sample-offset .ensures) (rw (c .before .read .given .1) (record { status = refl; out = refl }))
 
--- src/descriptions.rt:195:1
 returns-2 : tie.Need-returns-2
 returns-2 c = rw (← c .before .before .alst-sample-offset .ensures) (rw (c .enum-told .given .1) (record { status = refl; out = refl }))
 
--- src/descriptions.rt:195:1
 returns-3 : tie.Need-returns-3
 returns-3 c = rw (← c .before .before .before .alst-sample-offset .ensures) (rw (c .before .read2 .given .1) (record { status = refl; out = refl }))
 

@@ -6,15 +6,12 @@ use Rattle.film_index.proofs.descriptions.film_decode_prol.Lts as lts
 use Rattle.entries.proofs.decode_prol.Reads as decode-prol-reads
 use Rattle.film_index.proofs.descriptions.put_roll.Reads as put-roll-reads
 
--- src/descriptions.rt:92:14
 decode-prol-requires : tie.Need-decode-prol-requires
 decode-prol-requires c κs = search needs
 
--- src/descriptions.rt:92:5
 put-roll-requires : tie.Need-put-roll-requires
 put-roll-requires c κs = search needs
 
--- src/descriptions.rt:88:1
 returns : tie.Need-returns
 returns c = rw (c .before .before .decode-prol .ensures) at (c .put-roll .ensures)
 

@@ -7,39 +7,30 @@ use Rattle.film_index.proofs.descriptions.film_decode_rap.Lts as lts
 use Rattle.entries.proofs.decode_rap.Reads as decode-rap-reads
 use Rattle.film_index.proofs.descriptions.bit_of.Reads as bit-of-reads
 
--- src/descriptions.rt:100:9
 decode-rap-requires : tie.Need-decode-rap-requires
 decode-rap-requires c κs = search needs
 
--- src/descriptions.rt:102:25
 enum-known-read : tie.Need-enum-known-read
 enum-known-read c = search needs
 
--- src/descriptions.rt:103:22
 bit-of-requires : tie.Need-bit-of-requires
 bit-of-requires c κs = search needs
 
--- src/descriptions.rt:103:13
 element-write-out : tie.Need-element-write-out
 element-write-out c = search needs
 
--- src/descriptions.rt:104:22
 cast-out : tie.Need-cast-out
 cast-out c = search needs
 
--- src/descriptions.rt:104:13
 element-write-out-2 : tie.Need-element-write-out-2
 element-write-out-2 c = search needs
 
--- src/descriptions.rt:107:29
 enum-known-read-2 : tie.Need-enum-known-read-2
 enum-known-read-2 c = search needs
 
--- src/descriptions.rt:96:1
 returns : tie.Need-returns
 returns c = rw (← c .before .before .before .before .before .decode-rap .ensures) (rw (c .before .before .before .read .given .1) (record { status = refl; out = rw (c .before .bit-of .ensures) refl }))
 
--- src/descriptions.rt:96:1
 returns-2 : tie.Need-returns-2
 returns-2 c = rw (← c .before .before .before .decode-rap .ensures) (rw (c .before .read2 .given .1) (record { status = refl; out = refl }))
 

@@ -6,55 +6,42 @@ use Rattle.film_index.proofs.descriptions.film_decode_rash.Reads as rea
 use Rattle.film_index.proofs.descriptions.film_decode_rash.Lts as lts
 use Rattle.entries.proofs.decode_rash.Reads as decode-rash-reads
 
--- src/descriptions.rt:147:9
 decode-rash-requires : tie.Need-decode-rash-requires
 decode-rash-requires c κs = search needs
 
--- src/descriptions.rt:149:27
 enum-known-read : tie.Need-enum-known-read
 enum-known-read c = search needs
 
--- src/descriptions.rt:150:22
 cast-out : tie.Need-cast-out
 cast-out c = search needs
 
--- src/descriptions.rt:150:13
 element-write-out : tie.Need-element-write-out
 element-write-out c = search needs
 
--- src/descriptions.rt:151:22
 cast-out-2 : tie.Need-cast-out-2
 cast-out-2 c = search needs
 
--- src/descriptions.rt:151:13
 element-write-out-2 : tie.Need-element-write-out-2
 element-write-out-2 c = search needs
 
--- src/descriptions.rt:152:22
 cast-out-3 : tie.Need-cast-out-3
 cast-out-3 c = search needs
 
--- src/descriptions.rt:152:13
 element-write-out-3 : tie.Need-element-write-out-3
 element-write-out-3 c = search needs
 
--- src/descriptions.rt:153:22
 cast-out-4 : tie.Need-cast-out-4
 cast-out-4 c = search needs
 
--- src/descriptions.rt:153:13
 element-write-out-4 : tie.Need-element-write-out-4
 element-write-out-4 c = search needs
 
--- src/descriptions.rt:156:30
 enum-known-read-2 : tie.Need-enum-known-read-2
 enum-known-read-2 c = search needs
 
--- src/descriptions.rt:143:1
 returns : tie.Need-returns
 returns c = rw (← c .before .before .before .before .before .before .before .decode-rash .ensures) (rw (c .before .before .before .before .before .read .given .1) (record { status = refl; out = refl }))
 
--- src/descriptions.rt:143:1
 returns-2 : tie.Need-returns-2
 returns-2 c = rw (← c .before .before .before .decode-rash .ensures) (rw (c .before .read2 .given .1) (record { status = refl; out = refl }))
 

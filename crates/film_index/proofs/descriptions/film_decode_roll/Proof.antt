@@ -6,15 +6,12 @@ use Rattle.film_index.proofs.descriptions.film_decode_roll.Lts as lts
 use Rattle.entries.proofs.decode_roll.Reads as decode-roll-reads
 use Rattle.film_index.proofs.descriptions.put_roll.Reads as put-roll-reads
 
--- src/descriptions.rt:84:14
 decode-roll-requires : tie.Need-decode-roll-requires
 decode-roll-requires c κs = search needs
 
--- src/descriptions.rt:84:5
 put-roll-requires : tie.Need-put-roll-requires
 put-roll-requires c κs = search needs
 
--- src/descriptions.rt:80:1
 returns : tie.Need-returns
 returns c = rw (c .before .before .decode-roll .ensures) at (c .put-roll .ensures)
 

@@ -7,39 +7,30 @@ use Rattle.film_index.proofs.descriptions.film_decode_sap.Lts as lts
 use Rattle.entries.proofs.decode_sap.Reads as decode-sap-reads
 use Rattle.film_index.proofs.descriptions.bit_of.Reads as bit-of-reads
 
--- src/descriptions.rt:131:9
 decode-sap-requires : tie.Need-decode-sap-requires
 decode-sap-requires c κs = search needs
 
--- src/descriptions.rt:133:25
 enum-known-read : tie.Need-enum-known-read
 enum-known-read c = search needs
 
--- src/descriptions.rt:134:22
 bit-of-requires : tie.Need-bit-of-requires
 bit-of-requires c κs = search needs
 
--- src/descriptions.rt:134:13
 element-write-out : tie.Need-element-write-out
 element-write-out c = search needs
 
--- src/descriptions.rt:135:22
 cast-out : tie.Need-cast-out
 cast-out c = search needs
 
--- src/descriptions.rt:135:13
 element-write-out-2 : tie.Need-element-write-out-2
 element-write-out-2 c = search needs
 
--- src/descriptions.rt:138:29
 enum-known-read-2 : tie.Need-enum-known-read-2
 enum-known-read-2 c = search needs
 
--- src/descriptions.rt:127:1
 returns : tie.Need-returns
 returns c = rw (← c .before .before .before .before .before .decode-sap .ensures) (rw (c .before .before .before .read .given .1) (record { status = refl; out = rw (c .before .bit-of .ensures) refl }))
 
--- src/descriptions.rt:127:1
 returns-2 : tie.Need-returns-2
 returns-2 c = rw (← c .before .before .before .decode-sap .ensures) (rw (c .before .read2 .given .1) (record { status = refl; out = refl }))
 

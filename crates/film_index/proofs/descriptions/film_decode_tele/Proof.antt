@@ -7,31 +7,24 @@ use Rattle.film_index.proofs.descriptions.film_decode_tele.Lts as lts
 use Rattle.entries.proofs.decode_tele.Reads as decode-tele-reads
 use Rattle.film_index.proofs.descriptions.bit_of.Reads as bit-of-reads
 
--- src/descriptions.rt:116:9
 decode-tele-requires : tie.Need-decode-tele-requires
 decode-tele-requires c κs = search needs
 
--- src/descriptions.rt:118:27
 enum-known-read : tie.Need-enum-known-read
 enum-known-read c = search needs
 
--- src/descriptions.rt:119:22
 bit-of-requires : tie.Need-bit-of-requires
 bit-of-requires c κs = search needs
 
--- src/descriptions.rt:119:13
 element-write-out : tie.Need-element-write-out
 element-write-out c = search needs
 
--- src/descriptions.rt:122:30
 enum-known-read-2 : tie.Need-enum-known-read-2
 enum-known-read-2 c = search needs
 
--- src/descriptions.rt:112:1
 returns : tie.Need-returns
 returns c = rw (← c .before .before .before .before .decode-tele .ensures) (rw (c .before .before .read .given .1) (record { status = refl; out = rw (c .bit-of .ensures) refl }))
 
--- src/descriptions.rt:112:1
 returns-2 : tie.Need-returns-2
 returns-2 c = rw (← c .before .before .before .decode-tele .ensures) (rw (c .before .read2 .given .1) (record { status = refl; out = refl }))
 

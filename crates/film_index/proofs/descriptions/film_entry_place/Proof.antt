@@ -6,39 +6,30 @@ use Rattle.film_index.proofs.descriptions.film_entry_place.Reads as rea
 use Rattle.film_index.proofs.descriptions.film_entry_place.Lts as lts
 use Rattle.sgpd.proofs.entry_place.Reads as entry-place-reads
 
--- src/descriptions.rt:53:9
 entry-place-requires : tie.Need-entry-place-requires
 entry-place-requires c κs = search needs
 
--- src/descriptions.rt:55:27
 enum-known-read : tie.Need-enum-known-read
 enum-known-read c = search needs
 
--- src/descriptions.rt:56:13
 element-write-out : tie.Need-element-write-out
 element-write-out c = search needs
 
--- src/descriptions.rt:57:13
 element-write-out-2 : tie.Need-element-write-out-2
 element-write-out-2 c = search needs
 
--- src/descriptions.rt:60:32
 enum-told : tie.Need-enum-told
 enum-told c = search needs
 
--- src/descriptions.rt:61:29
 enum-known-read-2 : tie.Need-enum-known-read-2
 enum-known-read-2 c = search needs
 
--- src/descriptions.rt:49:1
 returns : tie.Need-returns
 returns c = rw (← c .before .before .before .entry-place .ensures) (rw (c .before .read .given .1) (record { status = refl; out = refl }))
 
--- src/descriptions.rt:49:1
 returns-2 : tie.Need-returns-2
 returns-2 c = rw (← c .before .before .entry-place .ensures) (rw (c .enum-told .given .1) (record { status = refl; out = refl }))
 
--- src/descriptions.rt:49:1
 returns-3 : tie.Need-returns-3
 returns-3 c = rw (← c .before .before .before .entry-place .ensures) (rw (c .before .read2 .given .1) (record { status = refl; out = refl }))
 

@@ -6,63 +6,48 @@ use Rattle.film_index.proofs.descriptions.film_parse_sgpd.Reads as read
 use Rattle.film_index.proofs.descriptions.film_parse_sgpd.Lts as lts
 use Rattle.sgpd.proofs.parse_sgpd.Reads as parse-sgpd-reads
 
--- src/descriptions.rt:34:9
 parse-sgpd-requires : tie.Need-parse-sgpd-requires
 parse-sgpd-requires c κs = search needs
 
--- src/descriptions.rt:36:33
 enum-known-read : tie.Need-enum-known-read
 enum-known-read c = search needs
 
--- src/descriptions.rt:37:22
 cast-out : tie.Need-cast-out
 cast-out c = search needs
 
--- src/descriptions.rt:37:13
 element-write-out : tie.Need-element-write-out
 element-write-out c = search needs
 
--- src/descriptions.rt:38:22
 cast-out-2 : tie.Need-cast-out-2
 cast-out-2 c = search needs
 
--- src/descriptions.rt:38:13
 element-write-out-2 : tie.Need-element-write-out-2
 element-write-out-2 c = search needs
 
--- src/descriptions.rt:39:22
 cast-out-3 : tie.Need-cast-out-3
 cast-out-3 c = search needs
 
--- src/descriptions.rt:39:13
 element-write-out-3 : tie.Need-element-write-out-3
 element-write-out-3 c = search needs
 
--- src/descriptions.rt:40:22
 cast-out-4 : tie.Need-cast-out-4
 cast-out-4 c = search needs
 
--- src/descriptions.rt:40:13
 element-write-out-4 : tie.Need-element-write-out-4
 element-write-out-4 c = search needs
 
--- src/descriptions.rt:41:22
 cast-out-5 : tie.Need-cast-out-5
 cast-out-5 c = search needs
 
--- src/descriptions.rt:41:13
 element-write-out-5 : tie.Need-element-write-out-5
 element-write-out-5 c = search needs
 
--- src/descriptions.rt:44:29
 enum-known-read-2 : tie.Need-enum-known-read-2
 enum-known-read-2 c = search needs
 
--- src/descriptions.rt:30:1
 returns : tie.Need-returns
 returns c = rw (← c .before .before .before .before .before .before .before .before .parse-sgpd .ensures) (rw (c .before .before .before .before .before .before .read .given .1) (record { status = refl; out = refl }))
 
--- src/descriptions.rt:30:1
 returns-2 : tie.Need-returns-2
 returns-2 c = rw (← c .before .before .before .parse-sgpd .ensures) (rw (c .before .read2 .given .1) (record { status = refl; out = refl }))
 

@@ -6,47 +6,36 @@ use Rattle.film_index.proofs.descriptions.film_rash_operation_point.Rea
 use Rattle.film_index.proofs.descriptions.film_rash_operation_point.Lts as lts
 use Rattle.entries.proofs.rash_operation_point.Reads as rash-operation-point-reads
 
--- src/descriptions.rt:165:9
 rash-operation-point-requires : tie.Need-rash-operation-point-requires
 rash-operation-point-requires c κs = search needs
 
--- src/descriptions.rt:167:26
 enum-known-read : tie.Need-enum-known-read
 enum-known-read c = search needs
 
--- src/descriptions.rt:168:22
 cast-out : tie.Need-cast-out
 cast-out c = search needs
 
--- src/descriptions.rt:168:13
 element-write-out : tie.Need-element-write-out
 element-write-out c = search needs
 
--- src/descriptions.rt:169:22
 cast-out-2 : tie.Need-cast-out-2
 cast-out-2 c = search needs
 
--- src/descriptions.rt:169:13
 element-write-out-2 : tie.Need-element-write-out-2
 element-write-out-2 c = search needs
 
--- src/descriptions.rt:172:31
 enum-told : tie.Need-enum-told
 enum-told c = search needs
 
--- src/descriptions.rt:173:28
 enum-known-read-2 : tie.Need-enum-known-read-2
 enum-known-read-2 c = search needs
 
--- src/descriptions.rt:161:1
 returns : tie.Need-returns
 returns c = rw (← c .before .before .before .before .before .rash-operation-point .ensures) (rw (c .before .before .before .read .given .1) (record { status = refl; out = refl }))
 
--- src/descriptions.rt:161:1
 returns-2 : tie.Need-returns-2
 returns-2 c = rw (← c .before .before .rash-operation-point .ensures) (rw (c .enum-told .given .1) (record { status = refl; out = refl }))
 
--- src/descriptions.rt:161:1
 returns-3 : tie.Need-returns-3
 returns-3 c = rw (← c .before .before .before .rash-operation-point .ensures) (rw (c .before .read2 .given .1) (record { status = refl; out = refl }))
 

@@ -9,25 +9,20 @@ use Rattle.film_index.proofs.descriptions.put_roll.Tie as tie
 use Rattle.film_index.proofs.descriptions.put_roll.Reads as reads
 use Rattle.film_index.proofs.descriptions.put_roll.Lts as lts
 
--- src/descriptions.rt:70:27
 enum-known-read : tie.Need-enum-known-read
 enum-known-read c = search needs
 
--- src/descriptions.rt:72:13
 element-set-from-distance : tie.Need-element-set-from-distance
 element-set-from-distance c = search needs
 
--- src/descriptions.rt:75:30
 enum-known-read-2 : tie.Need-enum-known-read-2
 enum-known-read-2 c = search needs
 
--- src/descriptions.rt:66:1
 returns : tie.Need-returns
 returns c = let before = c .before .before .before .before .args .out .now in
     rw (c .before .before .read .given .1)
     (record { status = refl; out = ap (λ (d : ℤ). set before 0 d) (toZ-ofZ {w = w16} (record { sfits = c .struct-told .given .0 .1 })) })
 
--- src/descriptions.rt:66:1
 returns-2 : tie.Need-returns-2
 returns-2 c = search needs
 

@@ -6,27 +6,21 @@ use Rattle.film_index.proofs.tables.film_covered_samples.Reads as reads
 use Rattle.film_index.proofs.tables.film_covered_samples.Lts as lts
 use Rattle.rows.proofs.covered_samples.Reads as covered-samples-reads
 
--- src/tables.rt:63:9
 covered-samples-requires : tie.Need-covered-samples-requires
 covered-samples-requires c κs = search needs
 
--- src/tables.rt:65:26
 enum-known-covered : tie.Need-enum-known-covered
 enum-known-covered c = search needs
 
--- src/tables.rt:66:13
 element-write-out : tie.Need-element-write-out
 element-write-out c = search needs
 
--- src/tables.rt:69:26
 enum-known-covered-2 : tie.Need-enum-known-covered-2
 enum-known-covered-2 c = search needs
 
--- src/tables.rt:57:1
 returns : tie.Need-returns
 returns c = rw (← c .before .before .before .covered-samples .ensures) (rw (c .before .covered .given .1) (record { status = refl; out = refl }))
 
--- src/tables.rt:57:1
 returns-2 : tie.Need-returns-2
 returns-2 c = rw (← c .before .before .before .covered-samples .ensures) (rw (c .before .covered2 .given .1) (record { status = refl; out = refl }))
 

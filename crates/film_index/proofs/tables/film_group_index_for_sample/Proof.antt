@@ -6,31 +6,24 @@ use Rattle.film_index.proofs.tables.film_group_index_for_sample.Reads a
 use Rattle.film_index.proofs.tables.film_group_index_for_sample.Lts as lts
 use Rattle.rows.proofs.group_index_for_sample.Reads as group-index-for-sample-reads
 
--- src/tables.rt:46:9
 group-index-for-sample-requires : tie.Need-group-index-for-sample-requires
 group-index-for-sample-requires c κs = search needs
 
--- src/tables.rt:48:22
 enum-known-found : tie.Need-enum-known-found
 enum-known-found c = search needs
 
--- src/tables.rt:49:22
 cast-out : tie.Need-cast-out
 cast-out c = search needs
 
--- src/tables.rt:49:13
 element-write-out : tie.Need-element-write-out
 element-write-out c = search needs
 
--- src/tables.rt:52:24
 enum-known-found-2 : tie.Need-enum-known-found-2
 enum-known-found-2 c = search needs
 
--- src/tables.rt:40:1
 returns : tie.Need-returns
 returns c = rw (← c .before .before .before .before .group-index-for-sample .ensures) (rw (c .before .before .found .given .1) (record { status = refl; out = refl }))
 
--- src/tables.rt:40:1
 returns-2 : tie.Need-returns-2
 returns-2 c = rw (← c .before .before .before .group-index-for-sample .ensures) (rw (c .before .found2 .given .1) (record { status = refl; out = refl }))
 

@@ -6,19 +6,15 @@ use Rattle.film_index.proofs.tables.film_parse_csgp.Lts as lts
 use Rattle.film_index.proofs.tables.put_head.Reads as put-head-reads
 use Rattle.csgp.proofs.parse_csgp.Reads as parse-csgp-reads
 
--- src/tables.rt:36:14
 parse-csgp-requires : tie.Need-parse-csgp-requires
 parse-csgp-requires c κs = search needs
 
--- src/tables.rt:36:5
 put-head-requires : tie.Need-put-head-requires
 put-head-requires c κs = search needs
 
--- src/tables.rt:30:1
 same-length : tie.Need-same-length
 same-length c = search needs
 
--- src/tables.rt:30:1
 returns : tie.Need-returns
 returns c = record { returned = rw (c .before .before .before .before .parse-csgp .ensures .answer) at (c .put-head .ensures); filled = c .before .before .before .before .parse-csgp .ensures .rows }
 

@@ -15,51 +15,39 @@ Inv-loop out count numbers k₀ k = k ≤ count
 abbrev μ-loop : tie.MeasureT-loop
 μ-loop out count numbers k₀ k = count - k
 
--- src/record.rt:75:25
 mul-if1 : tie.Need-mul-if1 Inv-loop μ-loop
 mul-if1 c = search needs
 
--- src/record.rt:76:9
 returns : tie.Need-returns Inv-loop μ-loop
 returns c = search needs
 
--- src/record.rt:79:5
 loop-holds : tie.Need-loop-holds Inv-loop μ-loop
 loop-holds c = search needs
 
--- src/record.rt:80:38
 mul-read-u64 : tie.Need-mul-read-u64 Inv-loop μ-loop
 mul-read-u64 c = search needs
 
--- src/record.rt:80:12
 read-u64-requires : tie.Need-read-u64-requires Inv-loop μ-loop
 read-u64-requires c κs = search needs
 
--- src/record.rt:80:48
 mul-if2 : tie.Need-mul-if2 Inv-loop μ-loop
 mul-if2 c = search needs
 
--- src/record.rt:80:48
 element-copy-out-if2 : tie.Need-element-copy-out-if2 Inv-loop μ-loop
 element-copy-out-if2 c = search needs
 
--- src/record.rt:81:13
 returns-2 : tie.Need-returns-2 Inv-loop μ-loop
 returns-2 c = search needs
 
--- src/record.rt:83:13
 add-k : tie.Need-add-k Inv-loop μ-loop
 add-k c = search needs
 
--- src/record.rt:79:5
 loop-less : tie.Need-loop-less Inv-loop μ-loop
 loop-less c = search needs
 
--- src/record.rt:79:5
 loop-again : tie.Need-loop-again Inv-loop μ-loop
 loop-again c = search needs
 
--- src/record.rt:72:1
 returns-3 : tie.Need-returns-3 Inv-loop μ-loop
 returns-3 c = search needs
 

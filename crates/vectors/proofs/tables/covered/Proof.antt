@@ -8,23 +8,18 @@ use Rattle.vectors.proofs.tables.covered.Reads as reads
 use Rattle.vectors.proofs.tables.covered.Lts as lts
 use Rattle.vectors.proofs.tables.covered_in.Reads as covered-in-reads
 
--- src/tables.rt:104:9
 returns : tie.Need-returns
 returns c = search needs
 
--- src/tables.rt:106:19
 array-borrow-prefix-space : tie.Need-array-borrow-prefix-space
 array-borrow-prefix-space c = search needs
 
--- src/tables.rt:106:19
 slice-aggregate-covered-in : tie.Need-slice-aggregate-covered-in
 slice-aggregate-covered-in c = sym (length-take-le _ _ (c .before .if1 .left))
 
--- src/tables.rt:106:5
 covered-in-requires : tie.Need-covered-in-requires
 covered-in-requires c κs = rw (length-take-le _ _ (c .before .if1 .left)) (omega arith)
 
--- src/tables.rt:100:1
 returns-2 : tie.Need-returns-2
 returns-2 c = search needs
 

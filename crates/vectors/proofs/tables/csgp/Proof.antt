@@ -8,23 +8,18 @@ use Rattle.vectors.proofs.tables.csgp.Reads as reads
 use Rattle.vectors.proofs.tables.csgp.Lts as lts
 use Rattle.vectors.proofs.tables.csgp_into.Reads as csgp-into-reads
 
--- src/tables.rt:20:9
 returns : tie.Need-returns
 returns c = search needs
 
--- src/tables.rt:22:18
 array-borrow-prefix-space : tie.Need-array-borrow-prefix-space
 array-borrow-prefix-space c = search needs
 
--- src/tables.rt:22:18
 slice-aggregate-csgp-into : tie.Need-slice-aggregate-csgp-into
 slice-aggregate-csgp-into c = sym (length-take-le _ _ (c .before .if1 .left))
 
--- src/tables.rt:22:5
 csgp-into-requires : tie.Need-csgp-into-requires
 csgp-into-requires c κs = search needs
 
--- src/tables.rt:17:1
 returns-2 : tie.Need-returns-2
 returns-2 c = search needs
 

@@ -16,43 +16,33 @@ Inv-loop s rows₀ k₀ rows k = (k ≤ length rows) × (length rows ≡ length 
 abbrev μ-loop : tie.MeasureT-loop
 μ-loop s rows₀ k₀ rows k = length rows - k
 
--- src/tables.rt:75:5
 loop-holds : tie.Need-loop-holds Inv-loop μ-loop
 loop-holds c = search needs
 
--- src/tables.rt:76:39
 mul-read-u32 : tie.Need-mul-read-u32 Inv-loop μ-loop
 mul-read-u32 c = search needs
 
--- src/tables.rt:76:19
 read-u32-requires : tie.Need-read-u32-requires Inv-loop μ-loop
 read-u32-requires c κs = search needs
 
--- src/tables.rt:76:9
 mul-rows : tie.Need-mul-rows Inv-loop μ-loop
 mul-rows c = search needs
 
--- src/tables.rt:76:9
 slice-write-rows : tie.Need-slice-write-rows Inv-loop μ-loop
 slice-write-rows c = search needs
 
--- src/tables.rt:77:13
 add-k : tie.Need-add-k Inv-loop μ-loop
 add-k c = search needs
 
--- src/tables.rt:75:5
 loop-less : tie.Need-loop-less Inv-loop μ-loop
 loop-less c = simp length-set (omega arith)
 
--- src/tables.rt:75:5
 loop-again : tie.Need-loop-again Inv-loop μ-loop
 loop-again c = (simp length-set (omega arith), simp length-set (omega arith))
 
--- src/tables.rt:71:1
 same-length : tie.Need-same-length Inv-loop μ-loop
 same-length c = search needs
 
--- src/tables.rt:71:1
 returns : tie.Need-returns Inv-loop μ-loop
 returns c = search needs
 

@@ -8,23 +8,18 @@ use Rattle.vectors.proofs.tables.sbgp.Reads as reads
 use Rattle.vectors.proofs.tables.sbgp.Lts as lts
 use Rattle.vectors.proofs.tables.sbgp_into.Reads as sbgp-into-reads
 
--- src/tables.rt:12:9
 returns : tie.Need-returns
 returns c = search needs
 
--- src/tables.rt:14:18
 array-borrow-prefix-space : tie.Need-array-borrow-prefix-space
 array-borrow-prefix-space c = search needs
 
--- src/tables.rt:14:18
 slice-aggregate-sbgp-into : tie.Need-slice-aggregate-sbgp-into
 slice-aggregate-sbgp-into c = sym (length-take-le _ _ (c .before .if1 .left))
 
--- src/tables.rt:14:5
 sbgp-into-requires : tie.Need-sbgp-into-requires
 sbgp-into-requires c κs = search needs
 
--- src/tables.rt:9:1
 returns-2 : tie.Need-returns-2
 returns-2 c = search needs
 

@@ -9,56 +9,43 @@ use Rattle.vectors.proofs.tables.table.Lts as lts
 use Rattle.vectors.proofs.numbers.checked.Reads as checked-reads
 use Rattle.vectors.proofs.tables.same_rows.Reads as same-rows-reads
 
--- src/tables.rt:39:9
 checked-requires : tie.Need-checked-requires
 checked-requires c κs = search needs
 
--- src/tables.rt:39:9
 returns : tie.Need-returns
 returns c = search needs
 
--- src/tables.rt:42:9
 returns-2 : tie.Need-returns-2
 returns-2 c = search needs
 
--- src/tables.rt:44:16
 sub-seen : tie.Need-sub-seen
 sub-seen c = search needs
 
--- src/tables.rt:44:16
 part-seen-start : tie.Need-part-seen-start
 part-seen-start c = search needs
 
--- src/tables.rt:44:16
 part-seen-end : tie.Need-part-seen-end
 part-seen-end c = search needs
 
--- src/tables.rt:45:28
 element-copy-out-if3 : tie.Need-element-copy-out-if3
 element-copy-out-if3 c = search needs
 
--- src/tables.rt:46:9
 returns-3 : tie.Need-returns-3
 returns-3 c = search needs
 
--- src/tables.rt:48:8
 same-rows-requires : tie.Need-same-rows-requires
 same-rows-requires c κs = search needs
 
--- src/tables.rt:49:45
 slice-aggregate-checked : tie.Need-slice-aggregate-checked
 slice-aggregate-checked c =
     sym (length-take-le 24 (c .before .before .before .before .before .before .before .before .before .before .args .expected .now) (omega arith))
 
--- src/tables.rt:49:9
 checked-requires-2 : tie.Need-checked-requires-2
 checked-requires-2 c κs = search needs
 
--- src/tables.rt:49:9
 returns-4 : tie.Need-returns-4
 returns-4 c = search needs
 
--- src/tables.rt:37:1
 returns-5 : tie.Need-returns-5
 returns-5 c = search needs
 
