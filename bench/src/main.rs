@@ -1,5 +1,6 @@
 //! One entry, run by this library, by the Rust, or by neither, on the same input: `bench ENTRY ours|rust|none`.
-//! `bench grow SHAPE SAMPLES CALLS` runs a csgp of that many samples.
+//! `bench grow SHAPE SAMPLES CALLS` runs a csgp of that many samples; `bench periods LENGTH COUNT CALLS` one pattern of that length, of two
+//! runs, repeated that often.
 
 use crate::{atom, sample_groups};
 use std::hint::black_box;
@@ -102,6 +103,16 @@ fn grow(shape: &str, samples: u32, calls: u32) {
     }
 }
 
+/// A csgp of one pattern that has two runs, and of a number of its periods: two rows for each.
+fn periods(length: u32, count: u32, calls: u32) {
+    let indices: Vec<u32> = (0..length).map(|k| 1 + 2 * k / length).collect();
+    let s = black_box(csgp(&[(length * count, &indices)]));
+    let mut run = vec![0u32; 4 * count as usize];
+    for _ in 0..calls {
+        assert_eq!(parse(film_parse_csgp, &s, &mut run), 2 * count as u64);
+    }
+}
+
 pub fn main() {
     let words: Vec<String> = std::env::args().skip(1).collect();
     let words: Vec<&str> = words.iter().map(String::as_str).collect();
@@ -112,6 +123,7 @@ pub fn main() {
         ["parse_csgp_wraps", side] => parsed(side, csgp(&[(9000, &[1, 2, 2])]), 6001, film_parse_csgp, sample_groups::parse_csgp),
         ["parse_csgp_uniform", side] => parsed(side, csgp(&[(9000, &[1])]), 1, film_parse_csgp, sample_groups::parse_csgp),
         ["group_index_for_sample", side] => looked_up(side),
+        ["periods", length, count, calls] => periods(length.parse().unwrap(), count.parse().unwrap(), calls.parse().unwrap()),
         ["grow", shape, samples, calls] => grow(shape, samples.parse().unwrap(), calls.parse().unwrap()),
         _ => panic!("bench ENTRY ours|rust|none"),
     }

@@ -170,11 +170,38 @@ fn large(tally: &mut Tally, random: &mut Random) {
     }
 }
 
+/// Many periods, between patterns that their rows join, with every number of records up to enough: it runs out in each of the periods that
+/// are passed in one step, too.
+fn periods(tally: &mut Tally, random: &mut Random) {
+    let shape = Shape { index: 1, count: 2, length: 1, parameter: false };
+    for length in 1..=6u32 {
+        for round in 0..60 {
+            let kinds = 1 + round % 3;
+            let mut some = |n: u32| -> Vec<u32> { (0..n).map(|_| random.below(kinds) as u32).collect() };
+            let [before, indices, behind] = [some(2), some(length), some(2)];
+            let count = length * random.below(20) as u32 + random.below(length as u64) as u32;
+            let patterns = [(2, random.below(9) as u32, before), (length, count, indices), (2, random.below(9) as u32, behind)];
+            let s = payload(random, shape, 3, &patterns).unwrap();
+            compare(tally, random, &s);
+            let input = ffi::Input::new(&s);
+            let told = sample_groups::parse_csgp(&s);
+            let rows = told.as_ref().unwrap().entries.len();
+            for records in 0..=rows {
+                let expected = if records < rows { Answer::Refused(29) } else { tables::theirs(&told) };
+                let shown = || format!("{s:02x?} with {records} records");
+                tally.same("parse_csgp", ffi::parse_csgp(&input, s.len(), 2 * records), expected, &shown);
+            }
+            input.check();
+        }
+    }
+}
+
 pub fn run(tally: &mut Tally) {
     let mut random = Random::new(6);
     wraps(tally, &mut random);
     mixed(tally, &mut random);
     large(tally, &mut random);
+    periods(tally, &mut random);
 }
 
 const WIDE: Shape = Shape { index: 1, count: 3, length: 1, parameter: false };

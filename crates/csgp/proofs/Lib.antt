@@ -4,7 +4,9 @@ pub mod Patterns
 pub mod Check
 pub mod Stretches
 pub mod Walk
+pub mod Passing
 pub mod Tails
 pub mod Filling
+pub mod Copying
 pub mod Parse
 pub mod Lookup

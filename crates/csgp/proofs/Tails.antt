@@ -11,7 +11,7 @@ use lib.ListN.{length, replicate}
 use Rattle.fields.specs.Answer.{Answer, given, none, refused, choose, andThen}
 use Rattle.rows.specs.Row.{Row}
 use Rattle.rows.specs.Pattern.{Pattern, samplesOf, countLimit, replay}
-use Rattle.rows.proofs.Replay.{Begins, replay-append, replay-join, replay-over, replay-begin, replay-no-room}
+use Rattle.rows.proofs.Replay.{Begins, replay-append, replay-room, replay-join, replay-over, replay-begin, replay-no-room}
 use Rattle.csgp.specs.Csgp.{csgp}
 use Rattle.csgp.specs.Layout.{Fixed}
 use Rattle.csgp.specs.Stream.{Ahead, firstRun, Runs}
@@ -90,6 +90,7 @@ pub record Replaying (s : List ℕ) (room : ℕ) (c : RunCursor) (tail : Tail) :
   pub ahead : Ahead s c coming
   pub standing : tail ≡ tailOf rows
   pub small : tail .count ≤ countLimit
+  pub roomy : length rows ≤ room
   pub decides : rowsFor s room ≡ replay room rows coming
 
 module _ (s : List ℕ) (room : ℕ) where
@@ -101,6 +102,7 @@ module _ (s : List ℕ) (room : ℕ) where
         ahead = walk-first s l f e;
         standing = refl;
         small = omega arith;
+        roomy = omega arith;
         decides = rw e;
       }
 
@@ -109,8 +111,8 @@ module _ (s : List ℕ) (room : ℕ) where
     unfolding replay
     replaying-end e = w .decides ∙ rw e
 
-    pub replaying-at : (d : RunCursor) → Ahead s d (w .coming) → Replaying s room d tail
-    replaying-at d a = record { rows = w .rows; coming = w .coming; ahead = a; standing = w .standing; small = w .small; decides = w .decides }
+    abbrev pub replaying-at : (d : RunCursor) → Ahead s d (w .coming) → Replaying s room d tail
+    replaying-at d a = record { rows = w .rows; coming = w .coming; ahead = a; standing = w .standing; small = w .small; roomy = w .roomy; decides = w .decides }
 
     pub rows-standing : tail .rows ≡ length (w .rows)
     rows-standing = ap (λ (t : Tail). t .rows) (w .standing) ∙ tail-length (w .rows)
@@ -134,5 +136,6 @@ module _ (s : List ℕ) (room : ℕ) where
             ahead = r .ahead;
             standing = g .1;
             small = g .2;
+            roomy = replay-room room (w .rows) (replicate n i) (g .0) (w .roomy);
             decides = then ∙ rw (g .0);
           }

@@ -4,8 +4,8 @@ use Prim.Native.Nat.{ℕ, suc, _+_, _-_, _*_, _%_, _≤_, _<_}
 use native.Mathlib.Nat.{sub-zero, sub-eq-zero-of-le, mod-lt}
 use native.Mathlib.Omega.{arith}
 use mathlib.Core.List.{List, [], _∷_, _++_, append-assoc}
-use lib.ListN.{length, replicate, length-append, length-replicate}
-use Rattle.fields.specs.Answer.{Answer, given, none, refused, inputLimit}
+use lib.ListN.{length, replicate}
+use Rattle.fields.specs.Answer.{given, inputLimit}
 use Rattle.rows.specs.Pattern.{Pattern, indexIn, samplesFrom, samplesOf}
 use Rattle.rows.proofs.Samples.{samplesFrom-add, samplesFrom-run}
 use Rattle.csgp.specs.Csgp.{indexWidth, bitCount, csgp}
@@ -69,23 +69,37 @@ module _ (s : List ℕ) where
             samples = parts ∙ rw z (sym (samples-all (step .rest)));
           }
 
-      -- a stretch of the first pattern
-      pub walk-run : (r : Stretch) → IsStretch (λ i. indexBits (l .«index_width») s (here .indices) (i % pair .length)) k (pair .count) r → Runs s xs (r .count) (r .index) (record { here = here; sample = k + r .count })
-      walk-run r g =
+      -- the next n samples of the first pattern, and those behind them
+      pub samples-on : (n : ℕ) → k + n ≤ pair .count → (others : List ℕ) × (xs ≡ samplesFrom (patternAt s (here .pair) (here .indices)) k n ++ others) × Ahead s (record { here = here; sample = k + n }) others
+      samples-on n b =
           let p = patternAt s (here .pair) (here .indices) in
-          let n = pairAt s (here .pair) .sampleCount in
-          let m = n - (k + r .count) in
-          let w : k + r .count ≤ n = rw (t .sampleCount) at (g .within) in
-          let e : n - k ≡ r .count + m = omega arith in
-          let same : (j : ℕ) → j < r .count → indexIn p (k + j) ≡ r .index = λ j b. index-bits (here .pair) (here .indices) (k + j) (step .long) ∙ rw (f .indexBits, t .patternLength) at (g .same j b) in
-          let q : samplesFrom p k (n - k) ≡ replicate (r .count) (r .index) ++ samplesFrom p (k + r .count) m = rw e (samplesFrom-add p k (r .count) m ∙ rw (samplesFrom-run p k (r .count) same) refl) in
-          record {
-            some = g .some;
-            small = omega (arith, g .within, t .countFits);
-            others = samplesFrom p (k + r .count) m ++ samplesOf (step .rest);
-            samples = parts ∙ rw q (append-assoc (replicate (r .count) (r .index)) (samplesFrom p (k + r .count) m) (samplesOf (step .rest)));
-            ahead = record { patterns = p ∷ step .rest; ahead = a .ahead ∙ ap given (step .first); samples = refl };
-          }
+          let all = pairAt s (here .pair) .sampleCount in
+          let m = all - (k + n) in
+          let w : k + n ≤ all = rw (t .sampleCount) at b in
+          let e : all - k ≡ n + m = omega arith in
+          let q : samplesFrom p k (all - k) ≡ samplesFrom p k n ++ samplesFrom p (k + n) m = rw e (samplesFrom-add p k n m) in (
+            samplesFrom p (k + n) m ++ samplesOf (step .rest),
+            parts ∙ rw q (append-assoc (samplesFrom p k n) (samplesFrom p (k + n) m) (samplesOf (step .rest))),
+            record { patterns = p ∷ step .rest; ahead = a .ahead ∙ ap given (step .first); samples = refl },
+          )
+
+      -- a stretch of the first pattern
+      module _ (r : Stretch) (g : IsStretch (λ i. indexBits (l .«index_width») s (here .indices) (i % pair .length)) k (pair .count) r) where
+        pub stretch-samples : samplesFrom (patternAt s (here .pair) (here .indices)) k (r .count) ≡ replicate (r .count) (r .index)
+        stretch-samples =
+            let p = patternAt s (here .pair) (here .indices) in
+            samplesFrom-run p k (r .count) (λ j b. index-bits (here .pair) (here .indices) (k + j) (step .long) ∙ rw (f .indexBits, t .patternLength) at (g .same j b))
+
+        pub walk-run : Runs s xs (r .count) (r .index) (record { here = here; sample = k + r .count })
+        walk-run =
+            let o = samples-on (r .count) (g .within) in
+            record {
+              some = g .some;
+              small = omega (arith, g .within, t .countFits);
+              others = o .0;
+              samples = o .1 ∙ rw stretch-samples refl;
+              ahead = o .2;
+            }
 
       -- what a stretch of the first pattern and the step to the next one ask
       pub stretch-fits : k < pair .count → (l .«index_width» ≤ 32) × (0 < pair .length) × (k < pair .count) × (here .indices + l .«index_width» * pair .length ≤ bitCount s) × (length s ≤ inputLimit)
@@ -95,21 +109,3 @@ module _ (s : List ℕ) where
       pub behind-fits : (0 < here .left) × (here .pair + l .«length_width» + l .«count_width» ≤ 18446744073709551615)
           × (here .indices + l .«index_width» * pair .length ≤ 18446744073709551615)
       behind-fits = next-fits s l f here (pair .length) h (step .pairFits) (rw (t .patternLength) (step .indicesFit))
-
--- how many samples are still to come
-abbrev leftIn : Answer (List Pattern) → ℕ → ℕ
-leftIn (given ps) k = length (samplesBehind ps k)
-leftIn none k = 0
-leftIn (refused n) k = 0
-
-abbrev pub samplesLeft : List ℕ → RunCursor → ℕ
-samplesLeft s c = leftIn (aheadOf s (c .here)) (c .sample)
-
-left-ahead : (s : List ℕ) (c : RunCursor) {xs : List ℕ} → Ahead s c xs → samplesLeft s c ≡ length xs
-left-ahead s c a = rw (a .ahead, a .samples)
-
--- a run leaves fewer
-pub left-less : (s : List ℕ) (c : RunCursor) {xs : List ℕ} {n i : ℕ} {d : RunCursor} → Ahead s c xs → Runs s xs n i d → samplesLeft s d < samplesLeft s c
-left-less s c {xs} {n} {i} {d} a r =
-    let e : length xs ≡ n + length (r .others) = ap length (r .samples) ∙ length-append (replicate n i) (r .others) ∙ rw (length-replicate n i) refl in
-    rw (left-ahead s c a, left-ahead s d (r .ahead)) (omega (arith, r .some))

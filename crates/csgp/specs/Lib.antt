@@ -2,4 +2,5 @@ pub mod Csgp
 pub mod Layout
 pub mod Stretch
 pub mod Stream
+pub mod Periods
 pub mod Replay

@@ -1,6 +1,7 @@
 // The compact sample-to-group atom csgp (document 01, part 4).
 mod fill;
 pub mod layout;
+mod periods;
 mod replay;
 pub mod stream;
 mod stretch;

@@ -9,6 +9,9 @@ use crate::layout::CsgpLayout;
 use crate::layout::first_pattern;
 use crate::layout::next_pattern;
 use crate::layout::pair_at;
+use crate::periods::Mark;
+use crate::periods::Passed;
+use crate::periods::pass_periods;
 use crate::stretch::Stretch;
 use crate::stretch::stretch_at;
 
@@ -72,6 +75,7 @@ pub(crate) fn measure(s: &[u8], layout: CsgpLayout, room: usize) -> Measured
     let mut here = first_pattern(layout);
     'replay: while 0 < here.left {
         let pair = pair_at(s, layout, here.pair);
+        let mut mark = Mark { sample: 0, tail };
         let mut k: u32 = 0;
         while k < pair.count {
             let run = stretch_at(
@@ -93,7 +97,17 @@ pub(crate) fn measure(s: &[u8], layout: CsgpLayout, room: usize) -> Measured
                     break 'replay;
                 }
             }
-            k = k + run.count;
+            match pass_periods(mark, tail, k + run.count, pair, room) {
+                Passed::On(next, sample, place) => {
+                    tail = next;
+                    k = sample;
+                    mark = place;
+                }
+                Passed::Full => {
+                    told = 29;
+                    break 'replay;
+                }
+            }
         }
         here = next_pattern(layout, here, pair.length);
     }

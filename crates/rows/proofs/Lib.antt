@@ -1,4 +1,5 @@
 pub mod Front
+pub mod Periods
 pub mod Replay
 pub mod Rows
 pub mod Samples

@@ -27,20 +27,20 @@ Begins [] i = Unit
 Begins (r ∷ rs) i = r .index ≡ i → ⊥
 
 -- one sample
-enter-join : (room : ℕ) (r : Row) (rs : List Row) {i : ℕ} → r .index ≡ i → r .count < countLimit → enter room (r ∷ rs) i ≡ given (record { count = r .count + 1; index = i } ∷ rs)
+pub enter-join : (room : ℕ) (r : Row) (rs : List Row) {i : ℕ} → r .index ≡ i → r .count < countLimit → enter room (r ∷ rs) i ≡ given (record { count = r .count + 1; index = i } ∷ rs)
 unfolding enter
 enter-join room r rs e h = simp (eq-eqb _ _ e, lt-leb _ _ h)
 
-enter-over : (room : ℕ) (r : Row) (rs : List Row) {i : ℕ} → r .index ≡ i → countLimit ≤ r .count → enter room (r ∷ rs) i ≡ refused 28
+pub enter-over : (room : ℕ) (r : Row) (rs : List Row) {i : ℕ} → r .index ≡ i → countLimit ≤ r .count → enter room (r ∷ rs) i ≡ refused 28
 unfolding enter
 enter-over room r rs e h = simp (eq-eqb _ _ e, le-leb _ _ h)
 
-enter-begin : (room : ℕ) (rows : List Row) (i : ℕ) → Begins rows i → length rows < room → enter room rows i ≡ given (record { count = 1; index = i } ∷ rows)
+pub enter-begin : (room : ℕ) (rows : List Row) (i : ℕ) → Begins rows i → length rows < room → enter room rows i ≡ given (record { count = 1; index = i } ∷ rows)
 unfolding enter
 enter-begin room [] i b h = simp (lt-leb _ _ h)
 enter-begin room (r ∷ rs) i b h = simp (ne-eqb _ _ b, lt-leb _ _ h)
 
-enter-no-room : (room : ℕ) (rows : List Row) (i : ℕ) → Begins rows i → room ≤ length rows → enter room rows i ≡ refused 29
+pub enter-no-room : (room : ℕ) (rows : List Row) (i : ℕ) → Begins rows i → room ≤ length rows → enter room rows i ≡ refused 29
 unfolding enter
 enter-no-room room [] i b h = simp (le-leb _ _ h)
 enter-no-room room (r ∷ rs) i b h = simp (ne-eqb _ _ b, le-leb _ _ h)

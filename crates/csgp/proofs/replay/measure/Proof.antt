@@ -7,21 +7,24 @@ use mathlib.Core.List.{List}
 use lib.ListN.{length}
 use Rattle.fields.specs.Answer.{Answer, given, refused}
 use Rattle.rows.specs.Row.{Row}
-use Rattle.csgp.specs.declared.replay.Entered.the-variants as entered
 use Rattle.csgp.specs.Replay.{enterRun, enteredOf, rowsFor}
+use Rattle.csgp.specs.Periods.{PassedTold}
 use Rattle.csgp.specs.declared.replay.Entered.{Entered}
+use Rattle.csgp.specs.declared.replay.Entered.the-variants as entered
+use Rattle.csgp.specs.declared.periods.Passed.{Passed}
+use Rattle.csgp.specs.declared.periods.Passed.the-variants as passes
 use Rattle.csgp.specs.declared.layout.PatternsAt.{PatternsAt}
-use Rattle.csgp.specs.Stream.{Runs}
-use Rattle.csgp.proofs.Walk.{walk-step, walk-end, walk-next, walk-run, stretch-fits, behind-fits}
-use Rattle.csgp.proofs.Tails.{Replaying, replaying-first, replaying-end, replaying-at, rows-standing, replaying-refused, replaying-run}
+use Rattle.csgp.proofs.Walk.{walk-step, walk-end, walk-next, stretch-fits, behind-fits}
+use Rattle.csgp.proofs.Tails.{Replaying, replaying-first, replaying-end, replaying-at, rows-standing}
+use Rattle.csgp.proofs.Passing.{Periodic, periodic-first, turn-refused, turn-fits, turn-full, turn-passed}
 use Rattle.csgp.proofs.replay.measure.Statement.{statement}
 use Rattle.csgp.proofs.replay.measure.Tie as tie
 
 abbrev Inv-loop : tie.InvT-loop
-Inv-loop s layout room told₀ tail₀ here pair k₀ told tail k = Replaying s room (record { here = here; sample = k }) tail × (told ≡ 0)
+Inv-loop s layout room told₀ tail₀ here pair mark₀ k₀ told tail mark k = Periodic s room here k tail mark × (told ≡ 0)
 
 abbrev μ-loop : tie.MeasureT-loop
-μ-loop s layout room told₀ tail₀ here pair k₀ told tail k = pair .count - k
+μ-loop s layout room told₀ tail₀ here pair mark₀ k₀ told tail mark k = pair .count - k
 
 abbrev Inv-replay : tie.InvT-replay
 Inv-replay s layout room told₀ tail₀ here₀ told tail here = Replaying s room (record { here = here; sample = 0 }) tail × (told ≡ 0)
@@ -32,12 +35,24 @@ abbrev μ-replay : tie.MeasureT-replay
 abbrev Turn : Type 0
 Turn = tie.After-enter-run Inv-loop μ-loop Inv-replay μ-replay
 
--- a turn of the inner loop enters a run
-turn-run : (c : Turn) → Runs (c .before .before .before .before .before .before .before .before .before .before .before .args .s .now) (c .before .before .before .before .loop .inv .0 .coming) (c .before .stretch-at .result .count) (c .before .stretch-at .result .index) (record { here = c .before .before .before .before .before .before .before .before .replay .here; sample = c .before .before .before .before .loop .k + c .before .stretch-at .result .count })
-turn-run c = walk-run _ (c .before .before .before .before .before .before .before .before .replay .here) (c .before .before .before .before .loop .k) (c .before .before .before .before .loop .inv .0 .ahead) (c .before .before .before .before .before .before .if1 .taken) _ (c .before .before .before .before .before .before .before .before .before .before .before .pre .fixed) _ (c .before .before .before .before .before .pair-at .ensures) (c .before .stretch-at .result) (c .before .stretch-at .ensures)
+abbrev Passing : Type 0
+Passing = tie.After-pass-periods Inv-loop μ-loop Inv-replay μ-replay
 
-turn-refused : (c : Turn) (e : Entered) {code : ℕ} → c .enter-run .result ≡ e → refused code ≡ enteredOf e → rowsFor (c .before .before .before .before .before .before .before .before .before .before .before .args .s .now) (c .before .before .before .before .before .before .before .before .before .before .before .args .room) ≡ refused code
-turn-refused c e w g = replaying-refused _ _ _ _ (c .before .before .before .before .loop .inv .0) (turn-run c) (g ∙ ap enteredOf (sym w) ∙ c .enter-run .ensures)
+run-refused : (c : Turn) (e : Entered) {code : ℕ} → c .enter-run .result ≡ e → refused code ≡ enteredOf e → rowsFor (c .before .before .before .before .before .before .before .before .before .before .before .args .s .now) (c .before .before .before .before .before .before .before .before .before .before .before .args .room) ≡ refused code
+run-refused c e w g = turn-refused _ _ _ _ _ _ (c .before .before .before .before .loop .inv .0) (c .before .before .before .before .before .before .if1 .taken) _ (c .before .before .before .before .before .before .before .before .before .before .before .pre .fixed) _ (c .before .before .before .before .before .pair-at .ensures) (c .before .stretch-at .result) (c .before .stretch-at .ensures) (g ∙ ap enteredOf (sym w) ∙ c .enter-run .ensures)
+
+-- the run is entered
+run-entered : (c : Turn) {next : _} → c .enter-run .result ≡ entered.Next next → given next ≡ enterRun (c .before .before .before .before .before .before .before .before .before .before .before .args .room) (c .before .before .before .before .loop .tail) (c .before .stretch-at .result .count) (c .before .stretch-at .result .index)
+run-entered c w = ap enteredOf (sym w) ∙ c .enter-run .ensures
+
+-- what passing the periods told
+passed : (c : Passing) (r : Passed) → c .pass-periods .result ≡ r → PassedTold (c .before .before .before .before .before .before .before .before .before .loop .mark) (c .before .before .before .next .given .0 .0) (c .before .before .before .before .before .before .before .before .before .loop .k + c .before .before .before .before .before .before .stretch-at .result .count) (c .before .before .before .before .before .before .before .before .before .before .pair-at .result) (c .before .before .before .before .before .before .before .before .before .before .before .before .before .before .before .before .args .room) r
+passed c r e = subst (λ (x : Passed). PassedTold (c .before .before .before .before .before .before .before .before .before .loop .mark) (c .before .before .before .next .given .0 .0) (c .before .before .before .before .before .before .before .before .before .loop .k + c .before .before .before .before .before .before .stretch-at .result .count) (c .before .before .before .before .before .before .before .before .before .before .pair-at .result) (c .before .before .before .before .before .before .before .before .before .before .before .before .before .before .before .before .args .room) x) e (c .pass-periods .ensures)
+
+run-full : (c : Passing) → c .pass-periods .result ≡ passes.Full → rowsFor (c .before .before .before .before .before .before .before .before .before .before .before .before .before .before .before .before .args .s .now) (c .before .before .before .before .before .before .before .before .before .before .before .before .before .before .before .before .args .room) ≡ refused 29
+run-full c e =
+    let t : Turn = (c .before .before .before .before .before) in
+    turn-full _ _ _ _ _ _ (t .before .before .before .before .loop .inv .0) (t .before .before .before .before .before .before .if1 .taken) _ (t .before .before .before .before .before .before .before .before .before .before .before .pre .fixed) _ (t .before .before .before .before .before .pair-at .ensures) (t .before .stretch-at .result) (t .before .stretch-at .ensures) (run-entered t (c .before .before .before .next .given .1)) (passed c passes.Full e)
 
 -- after the replay: all samples are entered, or what is told is the answer
 abbrev Done : Answer (List Row) → ℕ → ℕ → Type 0
@@ -58,10 +73,16 @@ done c =
     (λ v. ⊎-elim
     (λ w.
     let t : Turn = record { before = record { before = record { before = record { before = record { before = record { before = record { before = c .before; if1 = w .0 }; pair-at = w .1 }; loop = w .2 }; struct-known2 = w .3 }; if2 = w .4 }; stretch-at = w .5 }; enter-run = w .6 } in
-    inr (omega (arith, w .9), rw (w .9) (turn-refused t entered.Over (w .8 .given .1) refl)))
+    inr (omega (arith, w .9), rw (w .9) (run-refused t entered.Over (w .8 .given .1) refl)))
+    (λ v. ⊎-elim
     (λ w.
     let t : Turn = record { before = record { before = record { before = record { before = record { before = record { before = record { before = c .before; if1 = w .0 }; pair-at = w .1 }; loop = w .2 }; struct-known2 = w .3 }; if2 = w .4 }; stretch-at = w .5 }; enter-run = w .6 } in
-    inr (omega (arith, w .9), rw (w .9) (turn-refused t entered.Full (w .8 .given .1) refl)))
+    inr (omega (arith, w .9), rw (w .9) (run-refused t entered.Full (w .8 .given .1) refl)))
+    (λ w.
+    let t : Turn = record { before = record { before = record { before = record { before = record { before = record { before = record { before = c .before; if1 = w .0 }; pair-at = w .1 }; loop = w .2 }; struct-known2 = w .3 }; if2 = w .4 }; stretch-at = w .5 }; enter-run = w .6 } in
+    let p : Passing = record { before = record { before = record { before = record { before = record { before = t; match = w .7 }; next = w .8 }; known-told = w .9 }; struct-known3 = w .10 }; pass-periods = w .11 } in
+    inr (omega (arith, w .14), rw (w .14) (run-full p (w .13 .given .1))))
+    v)
     v)
     (c .if1 .came)
 
@@ -77,10 +98,10 @@ pair-at-requires : tie.Need-pair-at-requires Inv-loop μ-loop Inv-replay μ-repl
 pair-at-requires c κs = (c .before .before .before .before .before .pre .fixed, walk-step _ _ (c .before .before .replay .inv .0 .ahead) (c .if1 .taken) .pairFits)
 
 loop-holds : tie.Need-loop-holds Inv-loop μ-loop Inv-replay μ-replay
-loop-holds c = c .before .before .before .replay .inv
+loop-holds c = (periodic-first (c .before .before .before .replay .inv .0), c .before .before .before .replay .inv .1)
 
 stretch-at-requires : tie.Need-stretch-at-requires Inv-loop μ-loop Inv-replay μ-replay
-stretch-at-requires c κs = stretch-fits _ (c .before .before .before .before .before .before .replay .here) (c .before .before .loop .k) (c .before .before .loop .inv .0 .ahead) (c .before .before .before .before .if1 .taken) _ (c .before .before .before .before .before .before .before .before .before .pre .fixed) _ (c .before .before .before .pair-at .ensures) (c .if2 .taken)
+stretch-at-requires c κs = stretch-fits _ (c .before .before .before .before .before .before .replay .here) (c .before .before .loop .k) (c .before .before .loop .inv .0 .replaying .ahead) (c .before .before .before .before .if1 .taken) _ (c .before .before .before .before .before .before .before .before .before .pre .fixed) _ (c .before .before .before .pair-at .ensures) (c .if2 .taken)
 
 enter-run-requires : tie.Need-enter-run-requires Inv-loop μ-loop Inv-replay μ-replay
 enter-run-requires c κs = search needs
@@ -94,20 +115,33 @@ enum-told c = search needs
 enum-told-2 : tie.Need-enum-told-2 Inv-loop μ-loop Inv-replay μ-replay
 enum-told-2 c = search needs
 
-add-k : tie.Need-add-k Inv-loop μ-loop Inv-replay μ-replay
-add-k c = omega (arith, c .before .before .before .before .before .stretch-at .ensures .within, c .before .before .before .before .before .before .before .before .before .pair-at .ensures .countFits)
+add-pass-periods : tie.Need-add-pass-periods Inv-loop μ-loop Inv-replay μ-replay
+add-pass-periods c = omega (arith, c .before .before .before .before .before .stretch-at .ensures .within, c .before .before .before .before .before .before .before .before .before .pair-at .ensures .countFits)
+
+pass-periods-requires : tie.Need-pass-periods-requires Inv-loop μ-loop Inv-replay μ-replay
+pass-periods-requires c κs =
+    let t : Turn = (c .before .before .before .before) in
+    turn-fits _ _ _ _ _ _ (t .before .before .before .before .loop .inv .0) (t .before .before .before .before .before .before .if1 .taken) _ (t .before .before .before .before .before .before .before .before .before .before .before .pre .fixed) _ (t .before .before .before .before .before .pair-at .ensures) (t .before .stretch-at .result) (t .before .stretch-at .ensures) (run-entered t (c .before .before .next .given .1))
+
+enum-known-next-2 : tie.Need-enum-known-next-2 Inv-loop μ-loop Inv-replay μ-replay
+enum-known-next-2 c = search needs
 
 loop-less : tie.Need-loop-less Inv-loop μ-loop Inv-replay μ-replay
-loop-less c = omega (arith, c .before .before .before .before .before .stretch-at .ensures .within, c .before .before .before .before .before .stretch-at .ensures .some)
+loop-less c =
+    let o = passed (c .before .before .before) _ (c .before .next2 .given .1) in
+    omega (arith, o .sample, o .repeats .within, c .before .before .before .before .before .before .before .before .before .stretch-at .ensures .some)
 
 loop-again : tie.Need-loop-again Inv-loop μ-loop Inv-replay μ-replay
 loop-again c =
-    let t = (c .before .before .before .before) in
-    let e = subst (λ (r : Entered). enteredOf r ≡ enterRun (c .before .before .before .before .before .before .before .before .before .before .before .before .before .before .before .args .room) (c .before .before .before .before .before .before .before .before .loop .tail) (c .before .before .before .before .before .stretch-at .result .count) (c .before .before .before .before .before .stretch-at .result .index)) (c .before .before .next .given .1) (c .before .before .before .before .enter-run .ensures) in
-    (replaying-run _ _ _ _ (c .before .before .before .before .before .before .before .before .loop .inv .0) (turn-run t) e, c .before .before .before .before .before .before .before .before .loop .inv .1)
+    let t : Turn = (c .before .before .before .before .before .before .before .before) in
+    let p = turn-passed _ _ _ _ _ _ (t .before .before .before .before .loop .inv .0) (t .before .before .before .before .before .before .if1 .taken) _ (t .before .before .before .before .before .before .before .before .before .before .before .pre .fixed) _ (t .before .before .before .before .before .pair-at .ensures) (t .before .stretch-at .result) (t .before .stretch-at .ensures) (run-entered t (c .before .before .before .before .before .before .next .given .1)) (passed (c .before .before .before) _ (c .before .next2 .given .1)) in
+    (p, t .before .before .before .before .loop .inv .1)
+
+enum-told-3 : tie.Need-enum-told-3 Inv-loop μ-loop Inv-replay μ-replay
+enum-told-3 c = search needs
 
 next-pattern-requires : tie.Need-next-pattern-requires Inv-loop μ-loop Inv-replay μ-replay
-next-pattern-requires c κs = behind-fits _ (c .before .before .before .before .before .before .replay .here) (c .before .before .loop .k) (c .before .before .loop .inv .0 .ahead) (c .before .before .before .before .if1 .taken) _ (c .before .before .before .before .before .before .before .before .before .pre .fixed) _ (c .before .before .before .pair-at .ensures)
+next-pattern-requires c κs = behind-fits _ (c .before .before .before .before .before .before .replay .here) (c .before .before .loop .k) (c .before .before .loop .inv .0 .replaying .ahead) (c .before .before .before .before .if1 .taken) _ (c .before .before .before .before .before .before .before .before .before .pre .fixed) _ (c .before .before .before .pair-at .ensures)
 
 replay-less : tie.Need-replay-less Inv-loop μ-loop Inv-replay μ-replay
 replay-less c =
@@ -116,8 +150,9 @@ replay-less c =
 
 replay-again : tie.Need-replay-again Inv-loop μ-loop Inv-replay μ-replay
 replay-again c =
-    let a = walk-next _ (c .before .before .before .before .before .before .before .replay .here) (c .before .before .before .loop .k) (c .before .before .before .loop .inv .0 .ahead) (c .before .before .before .before .before .if1 .taken) _ (c .before .before .before .before .before .before .before .before .before .before .pre .fixed) _ (c .before .before .before .before .pair-at .ensures) (c .before .if2 .left) in
-    (rw (c .next-pattern .ensures) (replaying-at _ _ _ _ (c .before .before .before .loop .inv .0) _ a), c .before .before .before .loop .inv .1)
+    let w = c .before .before .before .loop .inv .0 .replaying in
+    let a = walk-next _ (c .before .before .before .before .before .before .before .replay .here) (c .before .before .before .loop .k) (w .ahead) (c .before .before .before .before .before .if1 .taken) _ (c .before .before .before .before .before .before .before .before .before .before .pre .fixed) _ (c .before .before .before .before .pair-at .ensures) (c .before .if2 .left) in
+    (rw (c .next-pattern .ensures) (replaying-at _ _ _ _ w _ a), c .before .before .before .loop .inv .1)
 
 returns : tie.Need-returns Inv-loop μ-loop Inv-replay μ-replay
 returns c = ⊎-elim (λ w. absurd (c .if3 .taken (w .0))) (λ w. rw (w .1)) (done (c .before))
@@ -142,9 +177,12 @@ measure-spec =
     enum-known-next
     enum-told
     enum-told-2
-    add-k
+    add-pass-periods
+    pass-periods-requires
+    enum-known-next-2
     loop-less
     loop-again
+    enum-told-3
     next-pattern-requires
     replay-less
     replay-again

@@ -1,0 +1,52 @@
+-- Whole periods of a pattern that are passed in one step, and their records copied.
+use mathlib.Core.Path.{_≡_}
+use mathlib.Core.Logic.{_⊎_}
+use Prim.Native.Nat.{ℕ, zero, suc, _+_, _-_, _*_, _≤_, _<_}
+use mathlib.Core.List.{List}
+use lib.ListN.{getD, set}
+use Rattle.csgp.specs.declared.layout.PatternPair.{PatternPair}
+use Rattle.csgp.specs.declared.replay.Tail.{Tail}
+use Rattle.csgp.specs.declared.periods.Mark.{Mark}
+use Rattle.csgp.specs.declared.periods.Passed.{Passed}
+use Rattle.csgp.specs.declared.periods.Passed.the-variants as passed
+
+-- the samples since the mark are one period, which left the last row as it found it, with more rows below it
+pub record Alike (mark : Mark) (tail : Tail) (k length : ℕ) : Type 0 where
+  pub period : k ≡ mark .sample + length
+  pub some : 0 < mark .tail .rows
+  pub more : mark .tail .rows < tail .rows
+  pub count : tail .count ≡ mark .tail .count
+  pub index : tail .index ≡ mark .tail .index
+
+-- n periods that are left and repeat the one since the mark
+pub record Repeats (mark : Mark) (tail : Tail) (k : ℕ) (pair : PatternPair) (n : ℕ) : Type 0 where
+  pub alike : (n ≡ 0) ⊎ Alike mark tail k (pair .length)
+  pub within : k + n * pair .length ≤ pair .count
+
+-- the rows n periods later, each of which adds as many as the one since the mark
+abbrev pub repeated : Mark → Tail → ℕ → Tail
+repeated mark tail n = record { rows = tail .rows + n * (tail .rows - mark .tail .rows); count = tail .count; index = tail .index }
+
+-- periods passed: the rows, the samples and the mark afterwards
+pub record Passes (mark : Mark) (tail : Tail) (k : ℕ) (pair : PatternPair) (room : ℕ) (t : Tail) (j : ℕ) (next : Mark) : Type 0 where
+  pub periods : ℕ
+  pub repeats : Repeats mark tail k pair periods
+  pub rows : t ≡ repeated mark tail periods
+  pub sample : j ≡ k + periods * pair .length
+  pub roomy : t .rows ≤ room
+  pub marks : ((periods ≡ 0) × (next ≡ mark)) ⊎ (next ≡ record { sample = j; tail = t })
+
+-- periods whose rows are too many
+pub record Overfull (mark : Mark) (tail : Tail) (k : ℕ) (pair : PatternPair) (room : ℕ) : Type 0 where
+  pub periods : ℕ
+  pub repeats : Repeats mark tail k pair periods
+  pub full : room < repeated mark tail periods .rows
+
+abbrev pub PassedTold : Mark → Tail → ℕ → PatternPair → ℕ → Passed → Type 0
+PassedTold mark tail k pair room (passed.On t j next) = Passes mark tail k pair room t j next
+PassedTold mark tail k pair room passed.Full = Overfull mark tail k pair room
+
+-- n records copied one after the other, from record i on, to record j on
+unfoldable pub copied : ℕ → ℕ → ℕ → List ℕ → List ℕ
+copied zero i j l = l
+copied (suc n) i j l = copied n (suc i) (suc j) (set (set l (2 * j) (getD l (2 * i) 0)) (2 * j + 1) (getD l (2 * i + 1) 0))

@@ -1,0 +1,67 @@
+// Whole periods of a pattern: once one has left the last row as it found it, those that follow do the same, and are passed in one step.
+ghost use mathlib.Core.Path.{_≡_};
+ghost use Prim.Native.Nat.{_+_, _*_, _≤_, _<_};
+ghost use Rattle.csgp.specs.Periods.{Repeats, PassedTold};
+use crate::layout::PatternPair;
+use crate::replay::Tail;
+
+// A place in the replay of a pattern: the samples passed, and the rows so far.
+pub struct Mark {
+    pub sample: u32,
+    pub tail: Tail,
+}
+
+pub enum Passed {
+    // the rows, the samples passed, and the next mark
+    On(Tail, u32, Mark),
+    // the periods' rows have no record left
+    Full,
+}
+
+// How many periods repeat the one since the mark: all that are left whole, where it left the last row as it found it; else 0.
+fn periods_alike(mark: Mark, tail: Tail, k: u32, pair: PatternPair) -> u32
+    requires { ⌜ (0 < pair .length) × (k ≤ pair .count) × (k ≡ mark .sample + pair .length) ⌝ }
+    ensures { λ r. ⌜ Repeats mark tail k pair r ⌝ }
+{
+    let before = mark.tail;
+    if before.rows == 0 {
+        return 0;
+    }
+    if tail.rows <= before.rows {
+        return 0;
+    }
+    if tail.count != before.count {
+        return 0;
+    }
+    if tail.index != before.index {
+        return 0;
+    }
+    (pair.count - k) / pair.length
+}
+
+// After k samples of a pattern: at the end of a period the periods alike are passed, and the mark is set anew.
+pub(crate) fn pass_periods(mark: Mark, tail: Tail, k: u32, pair: PatternPair, room: usize) -> Passed
+    requires { ⌜ (0 < pair .length) × (k ≤ pair .count) × (mark .sample ≤ k) × (tail .rows ≤ room) ⌝ }
+    ensures { λ r. ⌜ PassedTold mark tail k pair room r ⌝ }
+{
+    if k - mark.sample != pair.length {
+        return Passed::On(tail, k, mark);
+    }
+    let periods = periods_alike(mark, tail, k, pair);
+    if periods == 0 {
+        return Passed::On(tail, k, Mark { sample: k, tail });
+    }
+    let before = mark.tail;
+    let more = tail.rows - before.rows;
+    let many = periods as usize;
+    if (room - tail.rows) / more < many {
+        return Passed::Full;
+    }
+    let sample = k + periods * pair.length;
+    let next = Tail {
+        rows: tail.rows + many * more,
+        count: tail.count,
+        index: tail.index,
+    };
+    Passed::On(next, sample, Mark { sample, tail: next })
+}
