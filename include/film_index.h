@@ -1,4 +1,4 @@
-/* Film index: atoms of QuickTime and MP4 films. The functions of libfilm_index.a.
+/* Film index: atoms of QuickTime and MP4 films.
  *
  * Each function reads its input and returns a status: FILM_OK, FILM_NONE, or the number of a refusal (docs/REFUSALS.md).
  * Only with FILM_OK is `out` written, and then all of it. Nothing else is touched, no input is kept, and every call ends.

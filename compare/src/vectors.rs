@@ -1,8 +1,8 @@
-//! Stored vectors: a sample of the Rust's answers as lines of hexadecimal, for crates/vectors (docs/VECTORS.md has the format).
+//! Stored vectors: a sample of the Rust's answers as lines of hexadecimal, for the programs vectors_* (docs/VECTORS.md has the format).
 
 use super::ffi::Answer;
 
-/// The longest file that the program replays.
+/// The longest file that a program replays.
 const LIMIT: usize = 65_536;
 
 /// Lines with different inputs and answers, up to the limit.
@@ -16,7 +16,7 @@ impl Vectors {
         Vectors { lines: Vec::new(), size: 0 }
     }
 
-    /// One answer of the Rust for an entry, by the entry's number in crates/vectors/src/record.rt.
+    /// One answer of the Rust for an entry, by the entry's number in docs/VECTORS.md.
     pub fn add(&mut self, entry: u8, arguments: &[u64], input: &[u8], answer: Answer<Vec<u64>>) {
         let (status, numbers) = match answer {
             Answer::Given(numbers) => (0, numbers),

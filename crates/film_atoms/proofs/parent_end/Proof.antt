@@ -1,0 +1,15 @@
+use borrow.Author.Tests.{eq-eqb, ne-eqb}
+use borrow.Author.Needs.{needs}
+use Rattle.film_atoms.proofs.parent_end.Statement.{statement}
+use Rattle.film_atoms.proofs.parent_end.Tie as tie
+use Rattle.film_atoms.proofs.parent_end.Reads as reads
+use Rattle.film_atoms.proofs.parent_end.Lts as lts
+
+returns : tie.Need-returns
+returns c = simp (eq-eqb _ _ (c .if1 .taken))
+
+returns-2 : tie.Need-returns-2
+returns-2 c = simp (ne-eqb _ _ (c .if1 .left))
+
+pub parent-end-spec : {M : Type 1} → statement M
+parent-end-spec = tie.close (tie.spec returns returns-2)

@@ -1,0 +1,69 @@
+use mathlib.Core.Path.{refl}
+use borrow.Author.Needs.{needs}
+use Rattle.film_atoms.proofs.put_header.Statement.{statement}
+use Rattle.film_atoms.proofs.put_header.Tie as tie
+use Rattle.film_atoms.proofs.put_header.Reads as reads
+use Rattle.film_atoms.proofs.put_header.Lts as lts
+use Rattle.film_atoms.proofs.open_flag.Reads as open-flag-reads
+use Rattle.film_atoms.proofs.size_or_zero.Reads as size-or-zero-reads
+
+enum-known-read : tie.Need-enum-known-read
+enum-known-read c = search needs
+
+cast-out : tie.Need-cast-out
+cast-out c = search needs
+
+element-write-out : tie.Need-element-write-out
+element-write-out c = search needs
+
+open-flag-requires : tie.Need-open-flag-requires
+open-flag-requires c κs = search needs
+
+element-write-out-2 : tie.Need-element-write-out-2
+element-write-out-2 c = search needs
+
+size-or-zero-requires : tie.Need-size-or-zero-requires
+size-or-zero-requires c κs = search needs
+
+element-write-out-3 : tie.Need-element-write-out-3
+element-write-out-3 c = search needs
+
+element-write-out-4 : tie.Need-element-write-out-4
+element-write-out-4 c = search needs
+
+element-write-out-5 : tie.Need-element-write-out-5
+element-write-out-5 c = search needs
+
+enum-told : tie.Need-enum-told
+enum-told c = search needs
+
+enum-known-read-2 : tie.Need-enum-known-read-2
+enum-known-read-2 c = search needs
+
+returns : tie.Need-returns
+returns c = rw (c .before .before .before .before .read .given .1) (record { status = refl; out = rw (c .size-or-zero .ensures, c .before .open-flag .ensures) refl })
+
+returns-2 : tie.Need-returns-2
+returns-2 c = search needs
+
+returns-3 : tie.Need-returns-3
+returns-3 c = search needs
+
+pub put-header-spec : {M : Type 1} → statement M
+put-header-spec =
+    tie.close
+    (tie.spec
+    enum-known-read
+    cast-out
+    element-write-out
+    open-flag-requires
+    element-write-out-2
+    size-or-zero-requires
+    element-write-out-3
+    element-write-out-4
+    element-write-out-5
+    enum-told
+    enum-known-read-2
+    returns
+    returns-2
+    returns-3)

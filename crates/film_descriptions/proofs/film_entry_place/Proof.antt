@@ -1,0 +1,48 @@
+use mathlib.Core.Path.{refl}
+use borrow.Author.Needs.{needs}
+use Rattle.film_descriptions.proofs.film_entry_place.Statement.{statement}
+use Rattle.film_descriptions.proofs.film_entry_place.Tie as tie
+use Rattle.film_descriptions.proofs.film_entry_place.Reads as reads
+use Rattle.film_descriptions.proofs.film_entry_place.Lts as lts
+use Rattle.sgpd.proofs.entry_place.Reads as entry-place-reads
+
+entry-place-requires : tie.Need-entry-place-requires
+entry-place-requires c κs = search needs
+
+enum-known-read : tie.Need-enum-known-read
+enum-known-read c = search needs
+
+element-write-out : tie.Need-element-write-out
+element-write-out c = search needs
+
+element-write-out-2 : tie.Need-element-write-out-2
+element-write-out-2 c = search needs
+
+enum-told : tie.Need-enum-told
+enum-told c = search needs
+
+enum-known-read-2 : tie.Need-enum-known-read-2
+enum-known-read-2 c = search needs
+
+returns : tie.Need-returns
+returns c = rw (← c .before .before .before .entry-place .ensures) (rw (c .before .read .given .1) (record { status = refl; out = refl }))
+
+returns-2 : tie.Need-returns-2
+returns-2 c = rw (← c .before .before .entry-place .ensures) (rw (c .enum-told .given .1) (record { status = refl; out = refl }))
+
+returns-3 : tie.Need-returns-3
+returns-3 c = rw (← c .before .before .before .entry-place .ensures) (rw (c .before .read2 .given .1) (record { status = refl; out = refl }))
+
+pub film-entry-place-spec : {M : Type 1} → statement M
+film-entry-place-spec =
+    tie.close
+    (tie.spec
+    entry-place-requires
+    enum-known-read
+    element-write-out
+    element-write-out-2
+    enum-told
+    enum-known-read-2
+    returns
+    returns-2
+    returns-3)

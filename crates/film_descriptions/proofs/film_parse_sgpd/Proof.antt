@@ -1,0 +1,72 @@
+use mathlib.Core.Path.{refl}
+use borrow.Author.Needs.{needs}
+use Rattle.film_descriptions.proofs.film_parse_sgpd.Statement.{statement}
+use Rattle.film_descriptions.proofs.film_parse_sgpd.Tie as tie
+use Rattle.film_descriptions.proofs.film_parse_sgpd.Reads as reads
+use Rattle.film_descriptions.proofs.film_parse_sgpd.Lts as lts
+use Rattle.sgpd.proofs.parse_sgpd.Reads as parse-sgpd-reads
+
+parse-sgpd-requires : tie.Need-parse-sgpd-requires
+parse-sgpd-requires c κs = search needs
+
+enum-known-read : tie.Need-enum-known-read
+enum-known-read c = search needs
+
+cast-out : tie.Need-cast-out
+cast-out c = search needs
+
+element-write-out : tie.Need-element-write-out
+element-write-out c = search needs
+
+cast-out-2 : tie.Need-cast-out-2
+cast-out-2 c = search needs
+
+element-write-out-2 : tie.Need-element-write-out-2
+element-write-out-2 c = search needs
+
+cast-out-3 : tie.Need-cast-out-3
+cast-out-3 c = search needs
+
+element-write-out-3 : tie.Need-element-write-out-3
+element-write-out-3 c = search needs
+
+cast-out-4 : tie.Need-cast-out-4
+cast-out-4 c = search needs
+
+element-write-out-4 : tie.Need-element-write-out-4
+element-write-out-4 c = search needs
+
+cast-out-5 : tie.Need-cast-out-5
+cast-out-5 c = search needs
+
+element-write-out-5 : tie.Need-element-write-out-5
+element-write-out-5 c = search needs
+
+enum-known-read-2 : tie.Need-enum-known-read-2
+enum-known-read-2 c = search needs
+
+returns : tie.Need-returns
+returns c = rw (← c .before .before .before .before .before .before .before .before .parse-sgpd .ensures) (rw (c .before .before .before .before .before .before .read .given .1) (record { status = refl; out = refl }))
+
+returns-2 : tie.Need-returns-2
+returns-2 c = rw (← c .before .before .before .parse-sgpd .ensures) (rw (c .before .read2 .given .1) (record { status = refl; out = refl }))
+
+pub film-parse-sgpd-spec : {M : Type 1} → statement M
+film-parse-sgpd-spec =
+    tie.close
+    (tie.spec
+    parse-sgpd-requires
+    enum-known-read
+    cast-out
+    element-write-out
+    cast-out-2
+    element-write-out-2
+    cast-out-3
+    element-write-out-3
+    cast-out-4
+    element-write-out-4
+    cast-out-5
+    element-write-out-5
+    enum-known-read-2
+    returns
+    returns-2)

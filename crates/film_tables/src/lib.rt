@@ -1,0 +1,73 @@
+// The C interface: sample tables, their rows in a lent run of u32 (a count and an index each), and lookups over such a run.
+ghost use mathlib.Core.Path.{_≡_};
+ghost use Rattle.rows.specs.Row.{recordsIn, lookup, total};
+ghost use Rattle.rows.specs.Found.{foundOf, coveredOf, parsedOf};
+ghost use Rattle.sbgp.specs.Sbgp.{parseSbgp};
+ghost use Rattle.csgp.specs.Csgp.{parseCsgp};
+ghost use Rattle.film_status.specs.Status.{Returns, oneNumber};
+ghost use Rattle.film_tables.specs.Tables.{Fills, headNumbers};
+use rows::Covered;
+use rows::Found;
+use rows::ParsedTable;
+use rows::SampleNumber;
+
+// Hands a table's head out.
+fn put_head(parsed: ParsedTable, out: &mut [u64; 3]) -> u32
+    ensures { λ r. ⌜ Returns (parsedOf parsed) headNumbers (now (out .entry)) (now (out .exit)) r ⌝ }
+{
+    match parsed {
+        ParsedTable::Table(t) => {
+            out[0] = t.grouping_type as u64;
+            out[1] = t.grouping_type_parameter as u64;
+            out[2] = t.entry_count as u64;
+            0
+        }
+        ParsedTable::Refused(n) => n,
+    }
+}
+
+// out: type, parameter, row count. The rows stand in front of the lent run.
+#[no_mangle]
+pub extern "C" fn film_parse_sbgp(s: &[u8], rows: &mut [u32], out: &mut [u64; 3]) -> u32
+    ensures { λ r. ⌜ Fills (parseSbgp (now (s .entry)) (recordsIn (now (rows .entry)))) (now (rows .entry)) (now (rows .exit)) (now (out .entry)) (now (out .exit)) r ⌝ }
+{
+    put_head(sbgp::parse_sbgp(s, rows), out)
+}
+
+// The same for a csgp payload.
+#[no_mangle]
+pub extern "C" fn film_parse_csgp(s: &[u8], rows: &mut [u32], out: &mut [u64; 3]) -> u32
+    ensures { λ r. ⌜ Fills (parseCsgp (now (s .entry)) (recordsIn (now (rows .entry)))) (now (rows .entry)) (now (rows .exit)) (now (out .entry)) (now (out .exit)) r ⌝ }
+{
+    put_head(csgp::parse_csgp(s, rows), out)
+}
+
+// out: the index of the row that covers the sample (counted from 0), 0 past the end.
+#[no_mangle]
+pub extern "C" fn film_group_index_for_sample(rows: &[u32], sample: u32, out: &mut [u64; 1]) -> u32
+    ensures { λ r. ⌜ Returns (lookup (now (rows .entry)) sample) oneNumber (now (out .entry)) (now (out .exit)) r ⌝ }
+{
+    let found = rows::group_index_for_sample(rows, SampleNumber(sample));
+    match found {
+        Found::Index(i) => {
+            out[0] = i.0 as u64;
+            0
+        }
+        Found::Refused(n) => n,
+    }
+}
+
+// out: the samples that the rows cover.
+#[no_mangle]
+pub extern "C" fn film_covered_samples(rows: &[u32], out: &mut [u64; 1]) -> u32
+    ensures { λ r. ⌜ Returns (total (now (rows .entry))) oneNumber (now (out .entry)) (now (out .exit)) r ⌝ }
+{
+    let covered = rows::covered_samples(rows);
+    match covered {
+        Covered::Samples(n) => {
+            out[0] = n;
+            0
+        }
+        Covered::Refused(n) => n,
+    }
+}
