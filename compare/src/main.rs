@@ -32,11 +32,16 @@ pub fn main() {
         vectors.print();
         return;
     }
-    let mut tally = tally::Tally::new();
-    atoms::run(&mut tally);
-    sbgp::run(&mut tally);
-    csgp::run(&mut tally);
-    sgpd::run(&mut tally);
-    entries::run(&mut tally);
-    tally.report();
+    let parts: [fn(&mut tally::Tally); 5] = [csgp::run, atoms::run, sgpd::run, entries::run, sbgp::run];
+    let tallies = std::thread::scope(|threads| {
+        let running = parts.map(|part| {
+            threads.spawn(move || {
+                let mut tally = tally::Tally::new();
+                part(&mut tally);
+                tally
+            })
+        });
+        running.map(|thread| thread.join().expect("a part of the comparison was cut off"))
+    });
+    tally::report(&tallies);
 }

@@ -28,15 +28,21 @@ impl Tally {
     pub fn count(&mut self, entry: &'static str, calls: u64) {
         *self.calls.entry(entry).or_insert(0) += calls;
     }
+}
 
-    /// Prints the counts and ends the program, with a failure where anything differed.
-    pub fn report(&self) -> ! {
-        let mut all = 0;
-        for (entry, calls) in &self.calls {
-            println!("compare: {entry}: {calls} calls");
-            all += calls;
+/// Prints the counts of all parts and ends the program, with a failure where anything differed.
+pub fn report(tallies: &[Tally]) -> ! {
+    let mut calls: BTreeMap<&'static str, u64> = BTreeMap::new();
+    for tally in tallies {
+        for (entry, n) in &tally.calls {
+            *calls.entry(entry).or_insert(0) += n;
         }
-        println!("compare: {all} calls, {} differences", self.differences);
-        std::process::exit(if self.differences == 0 && all > 0 { 0 } else { 1 });
     }
+    for (entry, n) in &calls {
+        println!("compare: {entry}: {n} calls");
+    }
+    let all: u64 = calls.values().sum();
+    let differences: u64 = tallies.iter().map(|tally| tally.differences).sum();
+    println!("compare: {all} calls, {differences} differences");
+    std::process::exit(if differences == 0 && all > 0 { 0 } else { 1 });
 }
