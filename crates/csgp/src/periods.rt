@@ -39,11 +39,14 @@ fn periods_alike(mark: Mark, tail: Tail, k: u32, pair: PatternPair) -> u32
     (pair.count - k) / pair.length
 }
 
-// After k samples of a pattern: at the end of a period the periods alike are passed, and the mark is set anew.
+// After k samples of a pattern, where some are left: at the end of a period the periods alike are passed, and the mark is set anew.
 pub(crate) fn pass_periods(mark: Mark, tail: Tail, k: u32, pair: PatternPair, room: usize) -> Passed
     requires { ⌜ (0 < pair .length) × (k ≤ pair .count) × (mark .sample ≤ k) × (tail .rows ≤ room) ⌝ }
     ensures { λ r. ⌜ PassedTold mark tail k pair room r ⌝ }
 {
+    if k == pair.count {
+        return Passed::On(tail, k, mark);
+    }
     if k - mark.sample != pair.length {
         return Passed::On(tail, k, mark);
     }

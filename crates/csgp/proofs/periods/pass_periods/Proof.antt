@@ -7,22 +7,19 @@ use Rattle.csgp.proofs.Passing.{alike-of, repeated-none, enough, too-ma
 use Rattle.csgp.proofs.periods.pass_periods.Statement.{statement}
 use Rattle.csgp.proofs.periods.pass_periods.Tie as tie
 
-sub-if1 : tie.Need-sub-if1
-sub-if1 c = search needs
-
 returns : tie.Need-returns
 returns c =
     record {
       periods = 0;
       repeats = record { alike = inl refl; within = omega arith };
-      rows = repeated-none (c .before .before .before .args .mark) _;
+      rows = repeated-none (c .before .before .args .mark) _;
       sample = omega arith;
       roomy = omega arith;
       marks = inl (refl, refl);
     }
 
-periods-alike-requires : tie.Need-periods-alike-requires
-periods-alike-requires c κs = search needs
+sub-if2 : tie.Need-sub-if2
+sub-if2 c = search needs
 
 returns-2 : tie.Need-returns-2
 returns-2 c =
@@ -32,28 +29,42 @@ returns-2 c =
       rows = repeated-none (c .before .before .before .before .before .args .mark) _;
       sample = omega arith;
       roomy = omega arith;
+      marks = inl (refl, refl);
+    }
+
+periods-alike-requires : tie.Need-periods-alike-requires
+periods-alike-requires c κs = search needs
+
+returns-3 : tie.Need-returns-3
+returns-3 c =
+    record {
+      periods = 0;
+      repeats = record { alike = inl refl; within = omega arith };
+      rows = repeated-none (c .before .before .before .before .before .before .before .args .mark) _;
+      sample = omega arith;
+      roomy = omega arith;
       marks = inr refl;
     }
 
 sub-more : tie.Need-sub-more
-sub-more c = omega (arith, alike-of (c .before .before .before .before .periods-alike .ensures) (c .before .before .before .if2 .left) .more)
+sub-more c = omega (arith, alike-of (c .before .before .before .before .periods-alike .ensures) (c .before .before .before .if3 .left) .more)
 
 cast-many : tie.Need-cast-many
 cast-many c = search needs
 
-sub-if3 : tie.Need-sub-if3
-sub-if3 c = search needs
+sub-if4 : tie.Need-sub-if4
+sub-if4 c = search needs
 
-div-if3 : tie.Need-div-if3
-div-if3 c = omega (arith, alike-of (c .before .before .before .before .before .periods-alike .ensures) (c .before .before .before .before .if2 .left) .more)
+div-if4 : tie.Need-div-if4
+div-if4 c = omega (arith, alike-of (c .before .before .before .before .before .periods-alike .ensures) (c .before .before .before .before .if3 .left) .more)
 
-returns-3 : tie.Need-returns-3
-returns-3 c =
-    let a = alike-of (c .before .before .before .before .before .before .periods-alike .ensures) (c .before .before .before .before .before .if2 .left) in
+returns-4 : tie.Need-returns-4
+returns-4 c =
+    let a = alike-of (c .before .before .before .before .before .before .periods-alike .ensures) (c .before .before .before .before .before .if3 .left) in
     record {
       periods = c .before .before .before .before .before .before .periods-alike .result;
       repeats = c .before .before .before .before .before .before .periods-alike .ensures;
-      full = too-many (omega arith) (omega arith) (omega (arith, c .if3 .taken, c .before .before .before .before .before .if2 .left));
+      full = too-many (omega arith) (omega arith) (omega (arith, c .if4 .taken, c .before .before .before .before .before .if3 .left));
     }
 
 mul-sample : tie.Need-mul-sample
@@ -64,27 +75,27 @@ add-sample c = search needs
 
 mul-t15 : tie.Need-mul-t15
 mul-t15 c =
-    let a = alike-of (c .before .before .before .before .before .before .before .periods-alike .ensures) (c .before .before .before .before .before .before .if2 .left) in
-    let e = c .before .before .before .before .before .before .before .before .before .before .before .args in
+    let a = alike-of (c .before .before .before .before .before .before .before .periods-alike .ensures) (c .before .before .before .before .before .before .if3 .left) in
+    let e = c .before .before .before .before .before .before .before .before .before .before .before .before .before .args in
     let h : e .tail .rows + c .before .before .before .before .before .before .before .periods-alike .result * (e .tail .rows - e .mark .tail .rows) ≤ e .room = enough (omega arith) (omega arith) (omega arith) in
     omega arith
 
 add-t16 : tie.Need-add-t16
 add-t16 c =
-    let a = alike-of (c .before .before .before .before .before .before .before .before .periods-alike .ensures) (c .before .before .before .before .before .before .before .if2 .left) in
-    let e = c .before .before .before .before .before .before .before .before .before .before .before .before .args in
+    let a = alike-of (c .before .before .before .before .before .before .before .before .periods-alike .ensures) (c .before .before .before .before .before .before .before .if3 .left) in
+    let e = c .before .before .before .before .before .before .before .before .before .before .before .before .before .before .args in
     let h : e .tail .rows + c .before .before .before .before .before .before .before .before .periods-alike .result * (e .tail .rows - e .mark .tail .rows) ≤ e .room = enough (omega arith) (omega arith) (omega arith) in
     omega arith
 
-returns-4 : tie.Need-returns-4
-returns-4 c =
-    let a = alike-of (c .before .before .before .before .before .before .before .before .periods-alike .ensures) (c .before .before .before .before .before .before .before .if2 .left) in
+returns-5 : tie.Need-returns-5
+returns-5 c =
+    let a = alike-of (c .before .before .before .before .before .before .before .before .periods-alike .ensures) (c .before .before .before .before .before .before .before .if3 .left) in
     record {
       periods = c .before .before .before .before .before .before .before .before .periods-alike .result;
       repeats = c .before .before .before .before .before .before .before .before .periods-alike .ensures;
       rows = refl;
       sample = refl;
-      roomy = enough (omega arith) (omega arith) (omega (arith, c .before .before .if3 .left));
+      roomy = enough (omega arith) (omega arith) (omega (arith, c .before .before .if4 .left));
       marks = inr refl;
     }
 
@@ -92,17 +103,18 @@ pub pass-periods-spec : {M : Type 1} → statement M
 pass-periods-spec =
     tie.close
     (tie.spec
-    sub-if1
     returns
-    periods-alike-requires
+    sub-if2
     returns-2
+    periods-alike-requires
+    returns-3
     sub-more
     cast-many
-    sub-if3
-    div-if3
-    returns-3
+    sub-if4
+    div-if4
+    returns-4
     mul-sample
     add-sample
     mul-t15
     add-t16
-    returns-4)
+    returns-5)
