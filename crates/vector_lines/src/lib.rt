@@ -163,6 +163,9 @@ pub fn same_status(record: &[u8], status: u32) -> bool {
     if told.len() % 8 != 2 {
         return false;
     }
+    if byte(told, 1) != told.len() / 8 {
+        return false;
+    }
     if status != 0 {
         if told.len() != 2 {
             return false;

@@ -98,4 +98,5 @@ fn replay(name: &[u8]) {
 
 fn main() {
     replay(b"atoms");
+    replay(b"damaged");
 }

@@ -164,4 +164,5 @@ fn replay(name: &[u8]) {
 
 fn main() {
     replay(b"descriptions");
+    replay(b"damaged");
 }

@@ -152,4 +152,5 @@ fn replay(name: &[u8]) {
 fn main() {
     replay(b"tables");
     replay(b"document");
+    replay(b"damaged");
 }
