@@ -7,6 +7,5 @@ pub mod Walk
 pub mod Passing
 pub mod Tails
 pub mod Filling
-pub mod Copying
 pub mod Parse
 pub mod Lookup

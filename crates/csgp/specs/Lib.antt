@@ -2,5 +2,4 @@ pub mod Csgp
 pub mod Layout
 pub mod Stretch
 pub mod Stream
-pub mod Periods
 pub mod Replay

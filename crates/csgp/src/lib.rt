@@ -1,8 +1,7 @@
 // The compact sample-to-group atom csgp (document 01, part 4).
 mod fill;
 pub mod layout;
-mod periods;
-mod replay;
+mod measure;
 pub mod stream;
 mod stretch;
 
@@ -12,8 +11,8 @@ ghost use Rattle.rows.specs.Found.{Parses};
 ghost use Rattle.csgp.specs.Csgp.{parseCsgp};
 use layout::ReadLayout;
 use layout::csgp_layout;
-use replay::Measured;
-use replay::measure;
+use measure::Measured;
+use measure::measure;
 use rows::ParsedTable;
 use rows::SampleToGroup;
 

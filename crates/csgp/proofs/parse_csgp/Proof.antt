@@ -6,7 +6,7 @@ use Rattle.rows.specs.Row.{recordsIn}
 use Rattle.csgp.specs.Layout.{LayoutTold, Laid}
 use Rattle.csgp.specs.Replay.{rowsFor, measuredOf}
 use Rattle.csgp.specs.declared.layout.ReadLayout.{ReadLayout}
-use Rattle.csgp.specs.declared.replay.Measured.{Measured}
+use Rattle.csgp.specs.declared.measure.Measured.{Measured}
 use Rattle.csgp.proofs.Given.{given-inj, given-first}
 use Rattle.csgp.proofs.Parse.{parse-refused, parse-given, refused-rows}
 use Rattle.csgp.proofs.parse_csgp.Statement.{statement}

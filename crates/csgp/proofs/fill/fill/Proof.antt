@@ -6,19 +6,18 @@ use mathlib.Core.List.{List}
 use lib.ListN.{length}
 use Rattle.fields.specs.Answer.{given, refused}
 use Rattle.rows.specs.Row.{recordsIn}
-use Rattle.csgp.specs.Replay.{enterRun, enteredOf}
-use Rattle.csgp.specs.Periods.{PassedTold}
-use Rattle.csgp.specs.declared.replay.Entered.{Entered}
-use Rattle.csgp.specs.declared.replay.Entered.the-variants as entered
-use Rattle.csgp.specs.declared.periods.Passed.{Passed}
-use Rattle.csgp.specs.declared.periods.Passed.the-variants as passes
+use Rattle.replay.specs.Enter.{enterRun, enteredOf}
+use Rattle.replay.specs.Periods.{PassedTold}
+use Rattle.replay.specs.declared.enter.Entered.{Entered}
+use Rattle.replay.specs.declared.enter.Entered.the-variants as entered
+use Rattle.replay.specs.declared.periods.Passed.{Passed}
+use Rattle.replay.specs.declared.periods.Passed.the-variants as passes
 use Rattle.csgp.specs.declared.layout.PatternsAt.{PatternsAt}
 use Rattle.csgp.proofs.Given.{refused-given}
 use Rattle.csgp.proofs.Walk.{walk-step, walk-end, walk-next, stretch-fits, behind-fits}
 use Rattle.csgp.proofs.Tails.{replaying-at}
 use Rattle.csgp.proofs.Passing.{periodic-first, turn-refused, turn-fits, turn-full}
-use Rattle.csgp.proofs.Filling.{Filling, filling-first, filling-end}
-use Rattle.csgp.proofs.Copying.{Filled, copy-fits, put-fits, filled-turn}
+use Rattle.csgp.proofs.Filling.{Filling, filling-first, filling-end, Filled, copy-fits, put-fits, filled-turn}
 use Rattle.csgp.proofs.fill.fill.Statement.{statement}
 use Rattle.csgp.proofs.fill.fill.Tie as tie
 
@@ -53,8 +52,8 @@ run-entered : (c : Turn) {next : _} → c .enter-run .result ≡ entered.Next ne
 run-entered c w = ap enteredOf (sym w) ∙ c .enter-run .ensures
 
 -- what passing the periods told
-passed : (c : Passing) (r : Passed) → c .pass-periods .result ≡ r → PassedTold (c .before .before .before .before .before .before .before .before .before .loop2 .mark) (c .before .before .before .next .given .0 .0) (c .before .before .before .before .before .before .before .before .before .loop2 .k + c .before .before .before .before .before .before .stretch-at .result .count) (c .before .before .before .before .before .before .before .before .before .before .pair-at .result) (recordsIn (c .before .before .before .before .before .before .before .before .before .before .before .before .before .before .before .before .before .args .rows .now)) r
-passed c r e = subst (λ (x : Passed). PassedTold (c .before .before .before .before .before .before .before .before .before .loop2 .mark) (c .before .before .before .next .given .0 .0) (c .before .before .before .before .before .before .before .before .before .loop2 .k + c .before .before .before .before .before .before .stretch-at .result .count) (c .before .before .before .before .before .before .before .before .before .before .pair-at .result) (recordsIn (c .before .before .before .before .before .before .before .before .before .before .before .before .before .before .before .before .before .args .rows .now)) x) e (c .pass-periods .ensures)
+passed : (c : Passing) (r : Passed) → c .pass-periods .result ≡ r → PassedTold (c .before .before .before .before .before .before .before .before .before .loop2 .mark) (c .before .before .before .next .given .0 .0) (c .before .before .before .before .before .before .before .before .before .loop2 .k + c .before .before .before .before .before .before .stretch-at .result .count) (c .before .before .before .before .before .before .before .before .before .before .pair-at .result .length) (c .before .before .before .before .before .before .before .before .before .before .pair-at .result .count) (recordsIn (c .before .before .before .before .before .before .before .before .before .before .before .before .before .before .before .before .before .args .rows .now)) r
+passed c r e = subst (λ (x : Passed). PassedTold (c .before .before .before .before .before .before .before .before .before .loop2 .mark) (c .before .before .before .next .given .0 .0) (c .before .before .before .before .before .before .before .before .before .loop2 .k + c .before .before .before .before .before .before .stretch-at .result .count) (c .before .before .before .before .before .before .before .before .before .before .pair-at .result .length) (c .before .before .before .before .before .before .before .before .before .before .pair-at .result .count) (recordsIn (c .before .before .before .before .before .before .before .before .before .before .before .before .before .before .before .before .before .args .rows .now)) x) e (c .pass-periods .ensures)
 
 first-pattern-requires : tie.Need-first-pattern-requires Inv-loop2 μ-loop2 Inv-loop μ-loop
 first-pattern-requires c κs = search needs

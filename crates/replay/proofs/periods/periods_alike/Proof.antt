@@ -4,8 +4,8 @@ use Prim.Native.Nat.{_-_}
 use native.Mathlib.Nat.{div-mul-le-self}
 use native.Mathlib.Omega.{arith}
 use borrow.Author.Needs.{needs}
-use Rattle.csgp.proofs.periods.periods_alike.Statement.{statement}
-use Rattle.csgp.proofs.periods.periods_alike.Tie as tie
+use Rattle.replay.proofs.periods.periods_alike.Statement.{statement}
+use Rattle.replay.proofs.periods.periods_alike.Tie as tie
 
 returns : tie.Need-returns
 returns c = record { alike = inl refl; within = omega arith }
@@ -27,17 +27,17 @@ div-result c = search needs
 
 returns-5 : tie.Need-returns-5
 returns-5 c =
-    let e = c .before .before .before .before .before .before .before .before .before .before .before .before .before .before in
+    let e = c .before .before .before .before .before .before .before .before .before .before .before .before in
     let a = e .args in
     record {
       alike = inr (record {
         period = e .pre .2;
         some = omega arith;
         more = omega arith;
-        count = omega (arith, c .before .before .before .before .before .if3 .left);
-        index = omega (arith, c .before .before .if4 .left);
+        count = omega (arith, c .before .before .before .if3 .left);
+        index = omega (arith, c .if4 .left);
       });
-      within = omega (arith, div-mul-le-self (a .pair .count - a .k) (a .pair .length));
+      within = omega (arith, div-mul-le-self (a .count - a .k) (a .length));
     }
 
 pub periods-alike-spec : {M : Type 1} → statement M

@@ -1,9 +1,8 @@
 // Whole periods of a pattern: once one has left the last row as it found it, those that follow do the same, and are passed in one step.
 ghost use mathlib.Core.Path.{_≡_};
 ghost use Prim.Native.Nat.{_+_, _*_, _≤_, _<_};
-ghost use Rattle.csgp.specs.Periods.{Repeats, PassedTold};
-use crate::layout::PatternPair;
-use crate::replay::Tail;
+ghost use Rattle.replay.specs.Periods.{Repeats, PassedTold};
+use crate::enter::Tail;
 
 // A place in the replay of a pattern: the samples passed, and the rows so far.
 pub struct Mark {
@@ -18,10 +17,11 @@ pub enum Passed {
     Full,
 }
 
-// How many periods repeat the one since the mark: all that are left whole, where it left the last row as it found it; else 0.
-fn periods_alike(mark: Mark, tail: Tail, k: u32, pair: PatternPair) -> u32
-    requires { ⌜ (0 < pair .length) × (k ≤ pair .count) × (k ≡ mark .sample + pair .length) ⌝ }
-    ensures { λ r. ⌜ Repeats mark tail k pair r ⌝ }
+// How many periods repeat the one since the mark: all that are left whole of `count` samples, where it left the last row as it found it;
+// else 0.
+fn periods_alike(mark: Mark, tail: Tail, k: u32, length: u32, count: u32) -> u32
+    requires { ⌜ (0 < length) × (k ≤ count) × (k ≡ mark .sample + length) ⌝ }
+    ensures { λ r. ⌜ Repeats mark tail k length count r ⌝ }
 {
     let before = mark.tail;
     if before.rows == 0 {
@@ -36,21 +36,22 @@ fn periods_alike(mark: Mark, tail: Tail, k: u32, pair: PatternPair) -> u32
     if tail.index != before.index {
         return 0;
     }
-    (pair.count - k) / pair.length
+    (count - k) / length
 }
 
-// After k samples of a pattern, where some are left: at the end of a period the periods alike are passed, and the mark is set anew.
-pub(crate) fn pass_periods(mark: Mark, tail: Tail, k: u32, pair: PatternPair, room: usize) -> Passed
-    requires { ⌜ (0 < pair .length) × (k ≤ pair .count) × (mark .sample ≤ k) × (tail .rows ≤ room) ⌝ }
-    ensures { λ r. ⌜ PassedTold mark tail k pair room r ⌝ }
+// After k of the `count` samples of a pattern of `length` indices, where some are left: at the end of a period the periods alike are passed,
+// and the mark is set anew.
+pub fn pass_periods(mark: Mark, tail: Tail, k: u32, length: u32, count: u32, room: usize) -> Passed
+    requires { ⌜ (0 < length) × (k ≤ count) × (mark .sample ≤ k) × (tail .rows ≤ room) ⌝ }
+    ensures { λ r. ⌜ PassedTold mark tail k length count room r ⌝ }
 {
-    if k == pair.count {
+    if k == count {
         return Passed::On(tail, k, mark);
     }
-    if k - mark.sample != pair.length {
+    if k - mark.sample != length {
         return Passed::On(tail, k, mark);
     }
-    let periods = periods_alike(mark, tail, k, pair);
+    let periods = periods_alike(mark, tail, k, length, count);
     if periods == 0 {
         return Passed::On(tail, k, Mark { sample: k, tail });
     }
@@ -60,7 +61,7 @@ pub(crate) fn pass_periods(mark: Mark, tail: Tail, k: u32, pair: PatternPair, ro
     if (room - tail.rows) / more < many {
         return Passed::Full;
     }
-    let sample = k + periods * pair.length;
+    let sample = k + periods * length;
     let next = Tail {
         rows: tail.rows + many * more,
         count: tail.count,

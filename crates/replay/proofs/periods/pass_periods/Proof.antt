@@ -3,16 +3,16 @@ use mathlib.Core.Logic.{inl, inr}
 use Prim.Native.Nat.{_+_, _-_, _*_, _≤_}
 use native.Mathlib.Omega.{arith}
 use borrow.Author.Needs.{needs}
-use Rattle.csgp.proofs.Passing.{alike-of, repeated-none, enough, too-many}
-use Rattle.csgp.proofs.periods.pass_periods.Statement.{statement}
-use Rattle.csgp.proofs.periods.pass_periods.Tie as tie
+use Rattle.replay.proofs.Passing.{alike-of, repeated-none, enough, too-many}
+use Rattle.replay.proofs.periods.pass_periods.Statement.{statement}
+use Rattle.replay.proofs.periods.pass_periods.Tie as tie
 
 returns : tie.Need-returns
 returns c =
     record {
       periods = 0;
       repeats = record { alike = inl refl; within = omega arith };
-      rows = repeated-none (c .before .before .args .mark) _;
+      rows = repeated-none (c .before .args .mark) _;
       sample = omega arith;
       roomy = omega arith;
       marks = inl (refl, refl);
@@ -26,7 +26,7 @@ returns-2 c =
     record {
       periods = 0;
       repeats = record { alike = inl refl; within = omega arith };
-      rows = repeated-none (c .before .before .before .before .before .args .mark) _;
+      rows = repeated-none (c .before .before .before .args .mark) _;
       sample = omega arith;
       roomy = omega arith;
       marks = inl (refl, refl);
@@ -40,7 +40,7 @@ returns-3 c =
     record {
       periods = 0;
       repeats = record { alike = inl refl; within = omega arith };
-      rows = repeated-none (c .before .before .before .before .before .before .before .args .mark) _;
+      rows = repeated-none (c .before .before .before .before .before .args .mark) _;
       sample = omega arith;
       roomy = omega arith;
       marks = inr refl;
@@ -68,34 +68,34 @@ returns-4 c =
     }
 
 mul-sample : tie.Need-mul-sample
-mul-sample c = omega (arith, c .before .before .before .before .before .before .before .periods-alike .ensures .within)
+mul-sample c = omega (arith, c .before .before .before .before .before .before .periods-alike .ensures .within)
 
 add-sample : tie.Need-add-sample
 add-sample c = search needs
 
-mul-t15 : tie.Need-mul-t15
-mul-t15 c =
-    let a = alike-of (c .before .before .before .before .before .before .before .periods-alike .ensures) (c .before .before .before .before .before .before .if3 .left) in
-    let e = c .before .before .before .before .before .before .before .before .before .before .before .before .before .args in
-    let h : e .tail .rows + c .before .before .before .before .before .before .before .periods-alike .result * (e .tail .rows - e .mark .tail .rows) ≤ e .room = enough (omega arith) (omega arith) (omega arith) in
+mul-t16 : tie.Need-mul-t16
+mul-t16 c =
+    let a = alike-of (c .before .before .before .before .before .before .periods-alike .ensures) (c .before .before .before .before .before .if3 .left) in
+    let e = c .before .before .before .before .before .before .before .before .before .before .args in
+    let h : e .tail .rows + c .before .before .before .before .before .before .periods-alike .result * (e .tail .rows - e .mark .tail .rows) ≤ e .room = enough (omega arith) (omega arith) (omega arith) in
     omega arith
 
-add-t16 : tie.Need-add-t16
-add-t16 c =
-    let a = alike-of (c .before .before .before .before .before .before .before .before .periods-alike .ensures) (c .before .before .before .before .before .before .before .if3 .left) in
-    let e = c .before .before .before .before .before .before .before .before .before .before .before .before .before .before .args in
-    let h : e .tail .rows + c .before .before .before .before .before .before .before .before .periods-alike .result * (e .tail .rows - e .mark .tail .rows) ≤ e .room = enough (omega arith) (omega arith) (omega arith) in
+add-t17 : tie.Need-add-t17
+add-t17 c =
+    let a = alike-of (c .before .before .before .before .before .before .before .periods-alike .ensures) (c .before .before .before .before .before .before .if3 .left) in
+    let e = c .before .before .before .before .before .before .before .before .before .before .before .args in
+    let h : e .tail .rows + c .before .before .before .before .before .before .before .periods-alike .result * (e .tail .rows - e .mark .tail .rows) ≤ e .room = enough (omega arith) (omega arith) (omega arith) in
     omega arith
 
 returns-5 : tie.Need-returns-5
 returns-5 c =
-    let a = alike-of (c .before .before .before .before .before .before .before .before .periods-alike .ensures) (c .before .before .before .before .before .before .before .if3 .left) in
+    let a = alike-of (c .before .before .before .before .before .before .before .periods-alike .ensures) (c .before .before .before .before .before .before .if3 .left) in
     record {
-      periods = c .before .before .before .before .before .before .before .before .periods-alike .result;
-      repeats = c .before .before .before .before .before .before .before .before .periods-alike .ensures;
+      periods = c .before .before .before .before .before .before .before .periods-alike .result;
+      repeats = c .before .before .before .before .before .before .before .periods-alike .ensures;
       rows = refl;
       sample = refl;
-      roomy = enough (omega arith) (omega arith) (omega (arith, c .before .before .if4 .left));
+      roomy = enough (omega arith) (omega arith) (omega (arith, c .before .if4 .left));
       marks = inr refl;
     }
 
@@ -115,6 +115,6 @@ pass-periods-spec =
     returns-4
     mul-sample
     add-sample
-    mul-t15
-    add-t16
+    mul-t16
+    add-t17
     returns-5)

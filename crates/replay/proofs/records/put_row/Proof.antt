@@ -1,8 +1,8 @@
 use native.Mathlib.Omega.{arith}
 use borrow.Author.Needs.{needs}
 use lib.ListN.{length-set}
-use Rattle.csgp.proofs.fill.put_row.Statement.{statement}
-use Rattle.csgp.proofs.fill.put_row.Tie as tie
+use Rattle.replay.proofs.records.put_row.Statement.{statement}
+use Rattle.replay.proofs.records.put_row.Tie as tie
 
 mul-rows : tie.Need-mul-rows
 mul-rows c = search needs

@@ -1,30 +1,76 @@
--- Records that are copied: the rows of periods, behind those that stand already.
+-- Rows written in front of a run of numbers, and copied behind those that stand there.
 use mathlib.Core.Path.{_≡_, refl, ap, sym, _∙_}
 use mathlib.Core.Logic.{_⊎_, ⊎-elim}
-use Prim.Native.Nat.{ℕ, zero, suc, _+_, _-_, _*_, _%_, _≤_, _<_}
+use mathlib.Core.Bool.{Bool, true, false}
+use Prim.Native.Nat.{ℕ, zero, suc, _+_, _-_, _*_, _≤_, _<_}
 use native.Mathlib.Nat.{zero-add, zero-mul, suc-mul}
 use native.Mathlib.Omega.{arith}
 use mathlib.Core.List.{List, [], _∷_, _++_, reverse, reverse-cons, reverse-append, reverse-reverse, append-assoc}
+use lib.Dec.{eqb}
 use lib.ListN.{length, drop, set, getD, length-append, length-reverse}
-use lib.Seq.{getD-append-add}
+use lib.Seq.{drop-cons, set-at, getD-append-add}
+use Rattle.fields.specs.Answer.{choose}
 use Rattle.rows.specs.Row.{Row, flat}
 use Rattle.rows.proofs.Rows.{flat-append}
-use Rattle.rows.proofs.Periods.{stacked, stacked-length}
-use Rattle.fields.specs.Answer.{given}
-use Rattle.rows.specs.Pattern.{samplesFrom}
-use Rattle.csgp.specs.Layout.{patternAt, Fixed, PairTold}
-use Rattle.csgp.specs.Stretch.{indexBits, IsStretch}
-use Rattle.csgp.specs.Replay.{enterRun}
-use Rattle.csgp.specs.Periods.{Passes, copied}
-use Rattle.csgp.specs.declared.layout.CsgpLayout.{CsgpLayout}
-use Rattle.csgp.specs.declared.layout.PatternsAt.{PatternsAt}
-use Rattle.csgp.specs.declared.layout.PatternPair.{PatternPair}
-use Rattle.csgp.specs.declared.stretch.Stretch.{Stretch}
-use Rattle.csgp.specs.declared.replay.Tail.{Tail}
-use Rattle.csgp.specs.declared.periods.Mark.{Mark}
-use Rattle.csgp.proofs.Tails.{below, grown}
-use Rattle.csgp.proofs.Passing.{Growth, grows, Periodic, turn-entered, turn-passed}
-use Rattle.csgp.proofs.Filling.{Place, Written, put, place-new, place-below, front-length, flat-last}
+use Rattle.rows.proofs.Periods.{stacked}
+use Rattle.replay.specs.Records.{copied}
+use Rattle.replay.proofs.Entering.{below}
+
+flat-length : (rows : List Row) → length (flat rows) ≡ 2 * length rows
+unfolding flat
+flat-length [] = refl
+flat-length (r ∷ rows) = rw (flat-length rows) (omega arith)
+
+pub flat-last : (r : Row) (rs : List Row) → flat (reverse (r ∷ rs)) ≡ flat (reverse rs) ++ r .count ∷ r .index ∷ []
+unfolding flat
+flat-last r rs = rw (reverse-cons, flat-append)
+
+pub front-length : (rows : List Row) → length (flat (reverse rows)) ≡ 2 * length rows
+front-length rows = flat-length (reverse rows) ∙ rw (length-reverse rows) refl
+
+-- the run l, which was e, after rows were written in front
+abbrev pub Written : List ℕ → List ℕ → List Row → Type 0
+Written e l rows = l ≡ flat (reverse rows) ++ drop (2 * length rows) e
+
+module _ (e l : List ℕ) where
+  -- two numbers behind the rows that a run leaves below the last one
+  abbrev pub Place : List Row → Type 0
+  Place rows = (a : ℕ) × (b : ℕ) × (l ≡ flat (reverse rows) ++ a ∷ b ∷ drop (2 * suc (length rows)) e)
+
+  pub place-new : (rows : List Row) → Written e l rows → 2 * length rows + 2 ≤ length e → Place rows
+  place-new rows w h =
+      let m = 2 * length rows in
+      let n : suc (suc m) ≡ 2 * suc (length rows) = omega arith in
+      let a : m < length e = omega arith in
+      let b : suc m < length e = omega arith in (
+        getD e m 0,
+        getD e (suc m) 0,
+        w ∙ rw (drop-cons e m 0 a, drop-cons e (suc m) 0 b, n) refl,
+      )
+
+  place-last : (r : Row) (rs : List Row) → Written e l (r ∷ rs) → Place rs
+  place-last r rs w = (r .count, r .index, w ∙ rw (flat-last r rs, append-assoc))
+
+  pub place-below : (rows : List Row) (i : ℕ) → Written e l rows → 2 * length (below rows i) + 2 ≤ length e → Place (below rows i)
+  place-below [] i w h = place-new [] w h
+  place-below (r ∷ rs) i w h = by (eqb (r .index) i) h
+    where
+      by : (b : Bool) → 2 * length (choose b rs (r ∷ rs)) + 2 ≤ length e → Place (choose b rs (r ∷ rs))
+      by true h = place-last r rs w
+      by false h = place-new (r ∷ rs) w h
+
+  pub put : (rows : List Row) (x : Row) → Place rows → Written e (set (set l (2 * length rows) (x .count)) (2 * length rows + 1) (x .index)) (x ∷ rows)
+  put rows x (a, b, w) =
+      let f = flat (reverse rows) in
+      let m = 2 * length rows in
+      let d = drop (2 * suc (length rows)) e in
+      let n : length (f ++ x .count ∷ []) ≡ m + 1 = length-append f (x .count ∷ []) ∙ omega (arith, front-length rows) in
+      let one : set l m (x .count) ≡ (f ++ x .count ∷ []) ++ b ∷ d =
+      ap (λ (k : List ℕ). set k m (x .count)) w ∙ set-at f a (b ∷ d) (x .count) m (front-length rows) ∙ sym (append-assoc f (x .count ∷ []) (b ∷ d)) in
+      ap (λ (k : List ℕ). set k (m + 1) (x .index)) one
+      ∙ set-at (f ++ x .count ∷ []) b d (x .index) (m + 1) n
+      ∙ append-assoc f (x .count ∷ []) (x .index ∷ d)
+      ∙ rw (flat-last x rows) (sym (append-assoc f (x .count ∷ x .index ∷ []) d))
 
 -- one turn of the loop that copies, and its end
 pub copied-one : (i j end : ℕ) (l : List ℕ) {m : List ℕ} → 0 < i → i ≤ j → j < end → m ≡ set (set l (2 * (j - 1)) (getD l (2 * (i - 1)) 0)) (2 * (j - 1) + 1) (getD l (2 * (i - 1) + 1) 0) →
@@ -92,7 +138,7 @@ module _ (e : List ℕ) where
       rw (reverse-reverse, length-reverse) at (copy-all (reverse period) [] others l (rw reverse-reverse p) (rw (reverse-reverse, length-reverse) h))
 
   -- n periods
-  pub copy-periods : (n : ℕ) (period others : List Row) (l : List ℕ) → Place e l (period ++ others) → 2 * length (period ++ others) + 2 * (n * length period) + 2 ≤ length e →
+  copy-periods : (n : ℕ) (period others : List Row) (l : List ℕ) → Place e l (period ++ others) → 2 * length (period ++ others) + 2 * (n * length period) + 2 ≤ length e →
       Place e (copied (n * length period) (length others) (length (period ++ others)) l) (stacked n period (period ++ others))
   unfolding copied stacked
   copy-periods zero period others l p h = rw zero-mul p
@@ -108,7 +154,7 @@ module _ (e : List ℕ) where
   stacked-none n period low z = rw z refl
 
   -- the rows of n periods copied, where there are any
-  copy-growth : (n a b : ℕ) (period others low : List Row) (l : List ℕ) → low ≡ period ++ others → (n ≡ 0) ⊎ (suc (length others) ≡ a) → b ≡ suc (length low) → Place e l low →
+  pub copy-growth : (n a b : ℕ) (period others low : List Row) (l : List ℕ) → low ≡ period ++ others → (n ≡ 0) ⊎ (suc (length others) ≡ a) → b ≡ suc (length low) → Place e l low →
       2 * length low + 2 * (n * length period) + 2 ≤ length e → Place e (copied (n * length period) (a - 1) (b - 1) l) (stacked n period low)
   copy-growth n a b period others low l parts from q p h =
       ⊎-elim
@@ -120,60 +166,3 @@ module _ (e : List ℕ) where
       let j : b - 1 ≡ length low = omega arith in
       rw (i, j, parts) (copy-periods n period others l (rw parts at p) (rw parts at h)))
       from
-
--- the replay within a pattern, with its rows in front of the run
-pub record Filled (s e : List ℕ) (room : ℕ) (here : PatternsAt) (k : ℕ) (tail : Tail) (mark : Mark) (l : List ℕ) : Type 0 where
-  pub periodic : Periodic s room here k tail mark
-  pub written : Written e l (periodic .replaying .rows)
-  pub records : 2 * room ≤ length e
-
--- a turn of the loop over a pattern's samples: a run and the periods behind it
-module _ (s e : List ℕ) (room : ℕ) (here : PatternsAt) (k : ℕ) (tail : Tail) (mark : Mark) (l : List ℕ) (w : Filled s e room here k tail mark l) (h : 0 < here .left) (lay : CsgpLayout) (f : Fixed s lay) (pair : PatternPair) (t : PairTold s (here .pair) pair)
-    (r : Stretch) (g : IsStretch (λ i. indexBits (lay .«index_width») s (here .indices) (i % pair .length)) k (pair .count) r) {next : Tail} (en : given next ≡ enterRun room tail (r .count) (r .index))
-    {u : Tail} {j : ℕ} {after : Mark} (o : Passes mark next (k + r .count) pair room u j after) where
-  abbrev entering : Periodic s room here (k + r .count) next mark
-  entering = turn-entered s room here k tail mark (w .periodic) h lay f pair t r g en
-
-  abbrev passing : Periodic s room here j u after
-  passing = turn-passed s room here k tail mark (w .periodic) h lay f pair t r g en o
-
-  abbrev low : List Row
-  low = below (w .periodic .replaying .rows) (r .index)
-
-  abbrev last : Row
-  last = record { count = grown (w .periodic .replaying .rows) (r .count) (r .index); index = r .index }
-
-  abbrev growing : Growth room mark next (o .periods) (samplesFrom (patternAt s (here .pair) (here .indices)) (k + r .count) (o .periods * pair .length)) last low
-  growing = grows s room here (k + r .count) next (entering .replaying) h lay f pair t last low refl mark (entering .marked) (o .periods) (o .repeats)
-
-  rows-next : next .rows ≡ suc (length low)
-  rows-next = ap (λ (y : Tail). y .rows) (entering .replaying .standing)
-
-  pub copy-fits : (2 * u .rows ≤ length e) × (next .rows < u .rows → (0 < mark .tail .rows) × (mark .tail .rows ≤ next .rows))
-  copy-fits =
-      let v = ap (λ (y : Tail). y .rows) (o .rows) in (
-        omega (arith, o .roomy, w .records),
-        λ q. ⊎-elim (λ z. absurd (omega (arith, rw (z, zero-mul) at v))) (λ a. (a .some, omega (arith, a .more))) (o .repeats .alike),
-      )
-
-  pub put-fits : (1 ≤ u .rows) × (2 * (u .rows - 1) + 2 ≤ length e)
-  put-fits = let v = ap (λ (y : Tail). y .rows) (passing .replaying .standing) in (omega arith, omega (arith, passing .replaying .roomy, w .records))
-
-  pub filled-turn : (l' : List ℕ) → l' ≡ set (set (copied (u .rows - next .rows) (mark .tail .rows - 1) (next .rows - 1) l) (2 * (u .rows - 1)) (u .count)) (2 * (u .rows - 1) + 1) (u .index) → Filled s e room here j u after l'
-  filled-turn l' q =
-      let up = stacked (o .periods) (growing .period) low in
-      let v = ap (λ (y : Tail). y .rows) (o .rows) in
-      let n : u .rows - next .rows ≡ o .periods * length (growing .period) = omega (arith, growing .more) in
-      let size = stacked-length (o .periods) (growing .period) low in
-      let fits = passing .replaying .roomy in
-      let records = w .records in
-      let at : Place e l low = place-below e l (w .periodic .replaying .rows) (r .index) (w .written) (omega arith) in
-      let p : Place e (copied (u .rows - next .rows) (mark .tail .rows - 1) (next .rows - 1) l) up =
-      rw n (copy-growth e (o .periods) (mark .tail .rows) (next .rows) (growing .period) (growing .others) low l (growing .parts) (growing .from) rows-next at (omega arith)) in
-      let st = passing .replaying .standing in
-      let m : u .rows - 1 ≡ length up = ap (λ (y : Tail). y .rows - 1) st ∙ omega arith in
-      record {
-        periodic = passing;
-        records = records;
-        written = q ∙ rw (m, ap (λ (y : Tail). y .count) st, ap (λ (y : Tail). y .index) st) (put e _ up last p);
-      }

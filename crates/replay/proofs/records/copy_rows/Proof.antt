@@ -2,10 +2,10 @@ use mathlib.Core.Path.{_≡_, refl, ap, sym, _∙_}
 use Prim.Native.Nat.{_-_, _≤_, _<_}
 use native.Mathlib.Omega.{arith}
 use lib.ListN.{length, length-set}
-use Rattle.csgp.specs.Periods.{copied}
-use Rattle.csgp.proofs.Copying.{copied-one, copied-end}
-use Rattle.csgp.proofs.fill.copy_rows.Statement.{statement}
-use Rattle.csgp.proofs.fill.copy_rows.Tie as tie
+use Rattle.replay.specs.Records.{copied}
+use Rattle.replay.proofs.Copying.{copied-one, copied-end}
+use Rattle.replay.proofs.records.copy_rows.Statement.{statement}
+use Rattle.replay.proofs.records.copy_rows.Tie as tie
 
 abbrev Inv-loop : tie.InvT-loop
 Inv-loop rows₀ from to end i₀ j₀ rows i j = (copied (end - j) (i - 1) (j - 1) rows ≡ copied (end - to) (from - 1) (to - 1) rows₀) × (j < end → (0 < i) × (i ≤ j)) × (length rows ≡ length rows₀)

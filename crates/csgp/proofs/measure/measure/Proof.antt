@@ -7,18 +7,19 @@ use mathlib.Core.List.{List}
 use lib.ListN.{length}
 use Rattle.fields.specs.Answer.{Answer, given, refused}
 use Rattle.rows.specs.Row.{Row}
-use Rattle.csgp.specs.Replay.{enterRun, enteredOf, rowsFor}
-use Rattle.csgp.specs.Periods.{PassedTold}
-use Rattle.csgp.specs.declared.replay.Entered.{Entered}
-use Rattle.csgp.specs.declared.replay.Entered.the-variants as entered
-use Rattle.csgp.specs.declared.periods.Passed.{Passed}
-use Rattle.csgp.specs.declared.periods.Passed.the-variants as passes
+use Rattle.csgp.specs.Replay.{rowsFor}
+use Rattle.replay.specs.Enter.{enterRun, enteredOf}
+use Rattle.replay.specs.Periods.{PassedTold}
+use Rattle.replay.specs.declared.enter.Entered.{Entered}
+use Rattle.replay.specs.declared.enter.Entered.the-variants as entered
+use Rattle.replay.specs.declared.periods.Passed.{Passed}
+use Rattle.replay.specs.declared.periods.Passed.the-variants as passes
 use Rattle.csgp.specs.declared.layout.PatternsAt.{PatternsAt}
 use Rattle.csgp.proofs.Walk.{walk-step, walk-end, walk-next, stretch-fits, behind-fits}
 use Rattle.csgp.proofs.Tails.{Replaying, replaying-first, replaying-end, replaying-at, rows-standing}
 use Rattle.csgp.proofs.Passing.{Periodic, periodic-first, turn-refused, turn-fits, turn-full, turn-passed}
-use Rattle.csgp.proofs.replay.measure.Statement.{statement}
-use Rattle.csgp.proofs.replay.measure.Tie as tie
+use Rattle.csgp.proofs.measure.measure.Statement.{statement}
+use Rattle.csgp.proofs.measure.measure.Tie as tie
 
 abbrev Inv-loop : tie.InvT-loop
 Inv-loop s layout room told₀ tail₀ here pair mark₀ k₀ told tail mark k = Periodic s room here k tail mark × (told ≡ 0)
@@ -46,8 +47,8 @@ run-entered : (c : Turn) {next : _} → c .enter-run .result ≡ entered.Next ne
 run-entered c w = ap enteredOf (sym w) ∙ c .enter-run .ensures
 
 -- what passing the periods told
-passed : (c : Passing) (r : Passed) → c .pass-periods .result ≡ r → PassedTold (c .before .before .before .before .before .before .before .before .before .loop .mark) (c .before .before .before .next .given .0 .0) (c .before .before .before .before .before .before .before .before .before .loop .k + c .before .before .before .before .before .before .stretch-at .result .count) (c .before .before .before .before .before .before .before .before .before .before .pair-at .result) (c .before .before .before .before .before .before .before .before .before .before .before .before .before .before .before .before .args .room) r
-passed c r e = subst (λ (x : Passed). PassedTold (c .before .before .before .before .before .before .before .before .before .loop .mark) (c .before .before .before .next .given .0 .0) (c .before .before .before .before .before .before .before .before .before .loop .k + c .before .before .before .before .before .before .stretch-at .result .count) (c .before .before .before .before .before .before .before .before .before .before .pair-at .result) (c .before .before .before .before .before .before .before .before .before .before .before .before .before .before .before .before .args .room) x) e (c .pass-periods .ensures)
+passed : (c : Passing) (r : Passed) → c .pass-periods .result ≡ r → PassedTold (c .before .before .before .before .before .before .before .before .before .loop .mark) (c .before .before .before .next .given .0 .0) (c .before .before .before .before .before .before .before .before .before .loop .k + c .before .before .before .before .before .before .stretch-at .result .count) (c .before .before .before .before .before .before .before .before .before .before .pair-at .result .length) (c .before .before .before .before .before .before .before .before .before .before .pair-at .result .count) (c .before .before .before .before .before .before .before .before .before .before .before .before .before .before .before .before .args .room) r
+passed c r e = subst (λ (x : Passed). PassedTold (c .before .before .before .before .before .before .before .before .before .loop .mark) (c .before .before .before .next .given .0 .0) (c .before .before .before .before .before .before .before .before .before .loop .k + c .before .before .before .before .before .before .stretch-at .result .count) (c .before .before .before .before .before .before .before .before .before .before .pair-at .result .length) (c .before .before .before .before .before .before .before .before .before .before .pair-at .result .count) (c .before .before .before .before .before .before .before .before .before .before .before .before .before .before .before .before .args .room) x) e (c .pass-periods .ensures)
 
 run-full : (c : Passing) → c .pass-periods .result ≡ passes.Full → rowsFor (c .before .before .before .before .before .before .before .before .before .before .before .before .before .before .before .before .args .s .now) (c .before .before .before .before .before .before .before .before .before .before .before .before .before .before .before .before .args .room) ≡ refused 29
 run-full c e =

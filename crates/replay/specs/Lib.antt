@@ -1,0 +1,3 @@
+pub mod Enter
+pub mod Periods
+pub mod Records
