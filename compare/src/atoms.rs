@@ -1,5 +1,6 @@
 //! Parts 1 and 2 of document 01: headers, children, bodies.
 
+use super::MIB;
 use super::ffi::{self, Answer, Input};
 use super::random::Random;
 use super::tally::Tally;
@@ -119,8 +120,9 @@ fn compare_bodies(tally: &mut Tally, s: &[u8], input: &Input, at: u64, envelope:
 fn compare_walk(tally: &mut Tally, s: &[u8], input: &Input, at: u64, end: Option<u64>) {
     let mut calls = 0;
     let ours = our_walk(input, s.len(), at, end, &mut calls);
-    tally.same("walk_children", ours, walk(s, at, end), &|| format!("{} at {at} to {end:?}", hex(s)));
-    tally.count("next_child", calls);
+    tally.input("walks over children");
+    tally.same("next_child", ours, walk(s, at, end), &|| format!("{} at {at} to {end:?}", hex(s)));
+    tally.further("next_child", calls - 1);
 }
 
 /// Everything at one place of one input.
@@ -239,12 +241,12 @@ fn long(tally: &mut Tally) {
     let mut random = Random::new(3);
     for _ in 0..24 {
         let mut s = Vec::new();
-        while s.len() < 1 << 20 {
+        while s.len() < MIB {
             let n = random.below(30_000) as usize;
             s.extend(sized(n as u32 + 8, b"free"));
             s.extend(random.bytes(n));
         }
-        s.truncate(1 << 20);
+        s.truncate(MIB);
         let len = s.len() as u64;
         for at in [0, 8, random.below(len), len - 8, len - 1, len] {
             compare_all(tally, &s, at, &[None, Some(len)], &[len, 100]);

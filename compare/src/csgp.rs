@@ -1,5 +1,6 @@
 //! Part 4 of document 01.
 
+use super::MIB;
 use super::ffi::{self, Answer};
 use super::random::Random;
 use super::tables;
@@ -9,20 +10,25 @@ use crate::sample_groups;
 
 const WIDTHS: [u32; 4] = [4, 8, 16, 32];
 
-/// Numbers of any width in bits, high bit first.
+/// The largest pattern length, and the largest sum of counts, of document 01's domain.
+const MOST: u32 = 1_000_000;
+
+/// Numbers in fields of 4 bits or a multiple of 4, high bit first.
 struct Bits {
     bytes: Vec<u8>,
-    used: u32,
+    half: bool,
 }
 
 impl Bits {
     fn put(&mut self, width: u32, value: u32) {
-        for k in (0..width).rev() {
-            if self.used % 8 == 0 {
-                self.bytes.push(0);
+        for k in (0..width / 4).rev() {
+            let four = (value >> (4 * k) & 15) as u8;
+            if self.half {
+                *self.bytes.last_mut().unwrap() |= four;
+            } else {
+                self.bytes.push(four << 4);
             }
-            *self.bytes.last_mut().unwrap() |= ((value >> k & 1) as u8) << (7 - self.used % 8);
-            self.used += 1;
+            self.half = !self.half;
         }
     }
 }
@@ -39,6 +45,16 @@ struct Shape {
 impl Shape {
     fn all() -> impl Iterator<Item = Shape> {
         (0..128).map(|k| Shape { index: k % 4, count: k / 4 % 4, length: k / 16 % 4, parameter: k / 64 == 1 })
+    }
+
+    /// The bytes before the patterns.
+    fn head(&self) -> usize {
+        if self.parameter { 16 } else { 12 }
+    }
+
+    /// The largest pattern length and sample count that fit their fields and lie in the domain.
+    fn most(&self) -> [u32; 2] {
+        [self.length, self.count].map(|code| (u32::MAX >> (32 - WIDTHS[code])).min(MOST))
     }
 }
 
@@ -60,7 +76,7 @@ fn payload(random: &mut Random, shape: Shape, declared: u32, patterns: &[Pattern
         s.extend((random.next() as u32).to_be_bytes());
     }
     s.extend(declared.to_be_bytes());
-    let mut bits = Bits { bytes: Vec::new(), used: 0 };
+    let mut bits = Bits { bytes: Vec::new(), half: false };
     for (length, count, _) in patterns {
         bits.put(lw, *length);
         bits.put(cw, *count);
@@ -72,7 +88,7 @@ fn payload(random: &mut Random, shape: Shape, declared: u32, patterns: &[Pattern
     Some(s)
 }
 
-/// Document 01's domain: each pattern length and the sum of the counts at most 1,000,000. The pairs are read as far as they go.
+/// Whether a payload lies in the domain. The pairs are read as far as they go.
 fn in_domain(s: &[u8]) -> bool {
     if s.len() < 12 {
         return true;
@@ -94,7 +110,7 @@ fn in_domain(s: &[u8]) -> bool {
         }
         let (length, count) = (field(place, lw), field(place + lw, cw));
         sum += count;
-        if length > 1_000_000 || sum > 1_000_000 {
+        if length > MOST as u64 || sum > MOST as u64 {
             return false;
         }
         place += lw + cw;
@@ -155,17 +171,59 @@ fn mixed(tally: &mut Tally, random: &mut Random) {
     }
 }
 
-/// Sums up to 1,000,000, large indices, and inputs up to 1 MiB.
+/// One pattern with sums up to 1,000,000 and large indices.
 fn large(tally: &mut Tally, random: &mut Random) {
     for round in 0..60 {
         let uniform = round % 3 == 0;
-        let length = random.pick(&[1, 2, 3, 1000, 65_535, 200_000]);
+        let length = random.pick(&[1, 2, 3, 1000, 65_535, 262_139]);
         let kinds = if uniform { 1 } else { random.pick(&[2, 5, 0xffff_ffff]) };
         let base = random.next() as u32 / 2;
         let indices: Vec<u32> = (0..length).map(|_| base.wrapping_add(random.below(kinds) as u32)).collect();
-        let count = random.pick(&[1, 999_999, 1_000_000, length, length + 1, 2 * length - 1]).min(1_000_000);
+        let count = random.pick(&[1, 999_999, MOST, length, length + 1, 2 * length - 1]).min(MOST);
         let shape = Shape { index: 3, count: 3, length: 3, parameter: false };
         let s = payload(random, shape, 1, &[(length, count, indices)]).unwrap();
+        compare(tally, random, &s);
+    }
+}
+
+/// Patterns of at most `longest` indices whose fields fill `size` bytes, but for less than the smallest pattern, with a sum of counts that
+/// goes up to the domain's end.
+fn filling(random: &mut Random, shape: Shape, size: usize, longest: u32) -> Vec<Pattern> {
+    let [iw, pair] = [WIDTHS[shape.index], WIDTHS[shape.count] + WIDTHS[shape.length]];
+    let [longest, largest] = [shape.most()[0].min(longest), shape.most()[1]];
+    let mut left = 8 * (size - shape.head()) as u64;
+    let mut samples = MOST;
+    let mut patterns = Vec::new();
+    while left >= (pair + iw) as u64 {
+        let fitting = ((left - pair as u64) / iw as u64).min(longest as u64) as u32;
+        let length = if fitting < 16 { fitting } else { fitting - random.below(3) as u32 };
+        let count = random.below(2 * length as u64 + 2).min(largest.min(samples) as u64) as u32;
+        let kinds = random.pick(&[1, 2, 15]);
+        patterns.push((length, count, (0..length).map(|_| random.below(kinds) as u32).collect()));
+        left -= pair as u64 + iw as u64 * length as u64;
+        samples -= count;
+    }
+    patterns
+}
+
+/// Inputs of 1 MiB, in every combination of widths, without a parameter of short patterns and with one of the longest: whole, cut at the end
+/// and within the pair table, with a pattern too many, and damaged.
+fn mebibytes(tally: &mut Tally, random: &mut Random) {
+    for shape in Shape::all() {
+        let longest = if shape.parameter { MOST } else { random.pick(&[1, 3, 15]) };
+        let patterns = filling(random, shape, MIB, longest);
+        let declared = patterns.len() as u32;
+        let mut s = payload(random, shape, declared, &patterns).unwrap();
+        let used = s.len();
+        s.resize(MIB, 0);
+        compare(tally, random, &s);
+        compare(tally, random, &s[..used - 1]);
+        let pairs = shape.head() + patterns.len() * (WIDTHS[shape.count] + WIDTHS[shape.length]) as usize / 8;
+        compare(tally, random, &s[..pairs - 1]);
+        s[shape.head() - 4..shape.head()].copy_from_slice(&(declared + 1).to_be_bytes());
+        compare(tally, random, &s);
+        let k = random.below(MIB as u64) as usize;
+        s[k] ^= 1 << random.below(8);
         compare(tally, random, &s);
     }
 }
@@ -200,8 +258,14 @@ pub fn run(tally: &mut Tally) {
     let mut random = Random::new(6);
     wraps(tally, &mut random);
     mixed(tally, &mut random);
-    large(tally, &mut random);
     periods(tally, &mut random);
+}
+
+/// The part that takes long inputs.
+pub fn run_long(tally: &mut Tally) {
+    let mut random = Random::new(15);
+    large(tally, &mut random);
+    mebibytes(tally, &mut random);
 }
 
 const WIDE: Shape = Shape { index: 1, count: 3, length: 1, parameter: false };

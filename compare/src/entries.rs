@@ -42,7 +42,7 @@ fn compare(tally: &mut Tally, random: &mut Random, s: &[u8]) {
     let input = Input::new(s);
     let len = s.len();
     let shown = || format!("{:02x?}", &s[..len.min(80)]);
-    tally.count("entries", 1);
+    tally.input("entries");
     tally.same("decode_roll", ffi::decode_roll(&input, len, false), told(&rust::decode_roll(s), |v| v.roll_distance), &shown);
     tally.same("decode_prol", ffi::decode_roll(&input, len, true), told(&rust::decode_prol(s), |v| v.roll_distance), &shown);
     let rap = told(&rust::decode_rap(s), |v| [v.num_leading_samples_known as u64, v.num_leading_samples as u64]);
@@ -132,18 +132,18 @@ fn counted(random: &mut Random, count: u16, len: usize) -> Vec<u8> {
 
 pub fn run(tally: &mut Tally) {
     let mut random = Random::new(13);
-    // Every length 0 to 40 with every small count, many times.
+    // Every length 0 to 40 with every count of points or offsets that fits in it, many times.
     for len in 0..=40 {
-        for count in 0..=7 {
-            for _ in 0..12 {
+        for count in 0..=10 {
+            for _ in 0..2100 {
                 let s = counted(&mut random, count, len);
                 compare(tally, &mut random, &s);
             }
         }
     }
-    // Every first byte and, for the distances, every pair of bytes.
+    // Every byte and every pair of bytes.
     for first in 0..=255u8 {
-        for second in [0, 1, 2, 127, 128, 254, 255] {
+        for second in 0..=255u8 {
             compare(tally, &mut random, &[first, second]);
         }
         compare(tally, &mut random, &[first]);

@@ -78,7 +78,8 @@ impl Input {
 
 /// Calls with an `out` of N numbers between guards: written whole with OK, untouched otherwise.
 fn with_out<const N: usize>(call: impl FnOnce(*mut u64) -> u32) -> Answer<[u64; N]> {
-    let mut framed = vec![GUARD; N + 2 * GUARDS];
+    let mut numbers = [GUARD; 16];
+    let framed = &mut numbers[..N + 2 * GUARDS];
     let status = call(framed[GUARDS..].as_mut_ptr());
     let (front, rest) = framed.split_at(GUARDS);
     let (out, back) = rest.split_at(N);
@@ -143,10 +144,7 @@ pub fn parse_csgp(s: &Input, len: usize, numbers: usize) -> Answer<Table> {
 }
 
 pub fn group_index_for_sample(rows: &[u32], sample: u32) -> Answer<u32> {
-    let kept = rows.to_vec();
-    let told = with_out::<1>(|out| unsafe { film_group_index_for_sample(rows.as_ptr(), rows.len(), sample, out) });
-    assert!(rows == kept, "rows were written");
-    told.map(|[index]| index as u32)
+    with_out::<1>(|out| unsafe { film_group_index_for_sample(rows.as_ptr(), rows.len(), sample, out) }).map(|[index]| index as u32)
 }
 
 pub fn covered_samples(rows: &[u32]) -> Answer<u64> {

@@ -12,6 +12,9 @@ mod tables;
 mod tally;
 mod vectors;
 
+/// The longest input of document 01's domain.
+const MIB: usize = 1 << 20;
+
 pub fn main() {
     let words: Vec<String> = std::env::args().skip(1).collect();
     if words.first().is_some_and(|w| w == "vectors") {
@@ -32,7 +35,7 @@ pub fn main() {
         vectors.print();
         return;
     }
-    let parts: [fn(&mut tally::Tally); 5] = [csgp::run, atoms::run, sgpd::run, entries::run, sbgp::run];
+    let parts: [fn(&mut tally::Tally); 6] = [csgp::run, csgp::run_long, atoms::run, sgpd::run, entries::run, sbgp::run];
     let tallies = std::thread::scope(|threads| {
         let running = parts.map(|part| {
             threads.spawn(move || {

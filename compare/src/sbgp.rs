@@ -1,5 +1,6 @@
 //! Part 3 of document 01.
 
+use super::MIB;
 use super::ffi;
 use super::random::Random;
 use super::tables;
@@ -55,11 +56,17 @@ pub fn run(tally: &mut Tally) {
         }
         compare(tally, &mut random, &s);
     }
-    // 1 MiB.
-    for _ in 0..6 {
-        let rows: Vec<(u32, u32)> = (0..131_000).map(|_| (random.below(9) as u32, random.next() as u32)).collect();
-        let s = payload(&mut random, 1, rows.len() as u32, &rows);
-        compare(tally, &mut random, &s);
+    // 1 MiB, whole, one byte short, and with a row too many.
+    for version in [0, 1, 2] {
+        let rows: Vec<(u32, u32)> = (0..131_070).map(|_| (random.below(9) as u32, random.next() as u32)).collect();
+        for count in [rows.len() as u32, rows.len() as u32 + 1] {
+            let mut s = payload(&mut random, version, count, &rows);
+            let used = s.len();
+            s.resize(MIB, 7);
+            for len in [MIB, used, used - 1] {
+                compare(tally, &mut random, &s[..len]);
+            }
+        }
     }
 }
 

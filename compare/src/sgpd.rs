@@ -1,5 +1,6 @@
 //! Parts 6 and 9 of document 01.
 
+use super::MIB;
 use super::ffi::{self, Answer, Input};
 use super::random::Random;
 use super::tally::Tally;
@@ -80,7 +81,7 @@ fn compare(tally: &mut Tally, random: &mut Random, s: &[u8]) {
     let input = Input::new(s);
     let told = sample_groups::parse_sgpd(s);
     let shown = || format!("{:02x?}", &s[..s.len().min(80)]);
-    tally.count("payloads of sgpd", 1);
+    tally.input("payloads of sgpd");
     tally.same("parse_sgpd", ffi::parse_sgpd(&input, s.len()), theirs(&told), &shown);
     let found = told.as_ref().map_or(vec![], |d| places(s, d));
     let count = found.len() as u32;
@@ -145,32 +146,58 @@ fn fragments(tally: &mut Tally, random: &mut Random) {
     }
 }
 
-pub fn run(tally: &mut Tally) {
-    let mut random = Random::new(10);
-    // Every version and type, short bodies, counts around the bytes that are there and the largest, every truncation.
-    for version in VERSIONS {
+/// Every version and type with default lengths 0 to 64 and the largest, or lengths 0 to 64 before each entry; counts around the entries that
+/// are there and the largest; every truncation.
+fn lengths(tally: &mut Tally, random: &mut Random) {
+    for version in VERSIONS.into_iter().filter(|&version| version > 0) {
         for kind in TYPES {
-            for default_length in [0, 1, 2, 3, 7, u32::MAX] {
-                if version == 0 && default_length > 0 {
-                    continue;
-                }
-                for count in [0, 1, 2, 3, 4, 5, 9, 10, u32::MAX] {
-                    let body = if version > 0 && default_length == 0 { prefixed(&mut random, 4) } else { random.bytes(9) };
-                    let s = payload(&mut random, version, kind, default_length, count, &body);
-                    for len in 0..=s.len() {
-                        compare(tally, &mut random, &s[..len]);
+            for length in (0..=64).chain([u32::MAX]) {
+                let size = length.min(9) as usize;
+                let body = random.bytes(if length > 64 { 9 } else { 2 * length as usize + size });
+                for count in [0, 1, 2, 3, u32::MAX] {
+                    if length > 0 {
+                        let s = payload(random, version, kind, length, count, &body);
+                        truncations(tally, random, &s);
                     }
+                }
+                let mut prefixed = length.to_be_bytes().to_vec();
+                prefixed.extend(&body[..body.len().min(length as usize)]);
+                let second = random.below(5) as u32;
+                prefixed.extend(second.to_be_bytes());
+                prefixed.extend(random.bytes(second as usize));
+                for count in [0, 1, 2, 3, u32::MAX] {
+                    let s = payload(random, version, kind, 0, count, &prefixed);
+                    truncations(tally, random, &s);
                 }
             }
         }
     }
-    // Shares: every count over every short body of a type that has no length.
-    for len in 0..=64 {
-        for count in 0..=66 {
-            let s = payload(&mut random, 0, b"abcd", 0, count, &random_bytes(len));
-            compare(tally, &mut random, &s);
+}
+
+/// Version 0: every type with bodies of 0 to 64 bytes (and twice as many for the types of two bytes), by every count up to behind their bytes
+/// and by the largest.
+fn shares(tally: &mut Tally, random: &mut Random) {
+    for kind in TYPES {
+        let body = random.bytes(132);
+        for count in (0..=66).chain([u32::MAX]) {
+            let s = payload(random, 0, kind, 0, count, &body);
+            let longest = if matches!(kind, b"roll" | b"prol") { s.len() } else { s.len() - 66 };
+            truncations(tally, random, &s[..longest]);
         }
     }
+}
+
+fn truncations(tally: &mut Tally, random: &mut Random, s: &[u8]) {
+    for len in 0..=s.len() {
+        compare(tally, random, &s[..len]);
+    }
+}
+
+pub fn run(tally: &mut Tally) {
+    let mut random = Random::new(10);
+    lengths(tally, &mut random);
+    shares(tally, &mut random);
+    // Random entries, some damaged.
     for _ in 0..300_000 {
         let version = random.pick(&VERSIONS);
         let kind = random.pick(&TYPES);
@@ -184,12 +211,18 @@ pub fn run(tally: &mut Tally) {
         }
         compare(tally, &mut random, &s);
     }
-    // 1 MiB.
-    for (version, default_length) in [(0, 0), (1, 3), (1, 0), (2, 0)] {
-        let body = if version > 0 && default_length == 0 { prefixed(&mut random, 140_000) } else { random.bytes(1_000_000) };
-        let count = if version == 0 { 1000 } else { 140_000 };
-        let s = payload(&mut random, version, b"abcd", default_length, count, &body);
-        compare(tally, &mut random, &s);
+    // 1 MiB, and one byte less.
+    for version in VERSIONS {
+        for default_length in [0, 3] {
+            let head = payload(&mut random, version, b"abcd", 0, 0, &[]).len();
+            let mut body = if version > 0 && default_length == 0 { prefixed(&mut random, 170_000) } else { random.bytes(MIB - head) };
+            body.resize(MIB - head, 0);
+            for count in [1000, 170_000, (MIB - head) as u32 / 3, (MIB - head) as u32 / 3 + 1] {
+                let s = payload(&mut random, version, b"abcd", default_length, count, &body);
+                compare(tally, &mut random, &s);
+                compare(tally, &mut random, &s[..MIB - 1]);
+            }
+        }
     }
     fragments(tally, &mut random);
 }

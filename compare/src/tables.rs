@@ -44,7 +44,7 @@ pub fn compare(
     reference: impl Fn(&[u8]) -> Result<SampleToGroup>,
 ) {
     let input = Input::new(s);
-    tally.count(if entry == "parse_sbgp" { "payloads of sbgp" } else { "payloads of csgp" }, 1);
+    tally.input(if entry == "parse_sbgp" { "payloads of sbgp" } else { "payloads of csgp" });
     let told = reference(s);
     let expected = theirs(&told);
     let rows = told.as_ref().map_or(3, |t| t.entries.len());
@@ -71,6 +71,7 @@ fn lookups(tally: &mut Tally, random: &mut Random, table: &SampleToGroup) {
     if random.one_in(4) {
         rows.push(random.next() as u32);
     }
+    let kept = rows.clone();
     let covered = table.covered_samples();
     tally.same("covered_samples", ffi::covered_samples(&rows), Answer::Given(covered), &|| format!("{rows:?}"));
     let total = covered.min(u32::MAX as u64) as u32;
@@ -81,6 +82,7 @@ fn lookups(tally: &mut Tally, random: &mut Random, table: &SampleToGroup) {
         let theirs = Answer::Given(table.group_index_for_sample(k));
         tally.same("group_index_for_sample", ffi::group_index_for_sample(&rows, k), theirs, &|| format!("sample {k} of {rows:?}"));
     }
+    assert!(rows == kept, "rows were written");
 }
 
 /// The Rust's table for a payload as a stored vector, with `spare` numbers more than its rows need, and lookups around its seams.

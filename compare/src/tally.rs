@@ -4,13 +4,14 @@ use std::collections::BTreeMap;
 use std::fmt::Debug;
 
 pub struct Tally {
+    inputs: BTreeMap<&'static str, u64>,
     calls: BTreeMap<&'static str, u64>,
     differences: u64,
 }
 
 impl Tally {
     pub fn new() -> Self {
-        Tally { calls: BTreeMap::new(), differences: 0 }
+        Tally { inputs: BTreeMap::new(), calls: BTreeMap::new(), differences: 0 }
     }
 
     /// One call of `entry`: `ours` must equal `theirs`. `input` is told of the first differences.
@@ -24,20 +25,32 @@ impl Tally {
         }
     }
 
-    /// Further calls of `entry` that a comparison was made of.
-    pub fn count(&mut self, entry: &'static str, calls: u64) {
+    /// Calls of `entry` that went into the comparison just made, besides one.
+    pub fn further(&mut self, entry: &'static str, calls: u64) {
         *self.calls.entry(entry).or_insert(0) += calls;
     }
+
+    /// One more input of a kind.
+    pub fn input(&mut self, kind: &'static str) {
+        *self.inputs.entry(kind).or_insert(0) += 1;
+    }
+}
+
+/// The counts of all parts together.
+fn sums<'a>(counts: impl Iterator<Item = &'a BTreeMap<&'static str, u64>>) -> BTreeMap<&'static str, u64> {
+    let mut all = BTreeMap::new();
+    for (name, n) in counts.flatten() {
+        *all.entry(*name).or_insert(0) += n;
+    }
+    all
 }
 
 /// Prints the counts of all parts and ends the program, with a failure where anything differed.
 pub fn report(tallies: &[Tally]) -> ! {
-    let mut calls: BTreeMap<&'static str, u64> = BTreeMap::new();
-    for tally in tallies {
-        for (entry, n) in &tally.calls {
-            *calls.entry(entry).or_insert(0) += n;
-        }
+    for (kind, n) in sums(tallies.iter().map(|tally| &tally.inputs)) {
+        println!("compare: {n} {kind}");
     }
+    let calls = sums(tallies.iter().map(|tally| &tally.calls));
     for (entry, n) in &calls {
         println!("compare: {entry}: {n} calls");
     }
