@@ -186,13 +186,12 @@ fn large(tally: &mut Tally, random: &mut Random) {
     }
 }
 
-/// Patterns of at most `longest` indices whose fields fill `size` bytes, but for less than the smallest pattern, with a sum of counts that
-/// goes up to the domain's end.
-fn filling(random: &mut Random, shape: Shape, size: usize, longest: u32) -> Vec<Pattern> {
+/// Patterns of at most `longest` indices whose fields fill `size` bytes, but for less than the smallest pattern, with counts of at most
+/// `samples` together.
+fn filling(random: &mut Random, shape: Shape, size: usize, longest: u32, mut samples: u32) -> Vec<Pattern> {
     let [iw, pair] = [WIDTHS[shape.index], WIDTHS[shape.count] + WIDTHS[shape.length]];
     let [longest, largest] = [shape.most()[0].min(longest), shape.most()[1]];
     let mut left = 8 * (size - shape.head()) as u64;
-    let mut samples = MOST;
     let mut patterns = Vec::new();
     while left >= (pair + iw) as u64 {
         let fitting = ((left - pair as u64) / iw as u64).min(longest as u64) as u32;
@@ -206,12 +205,14 @@ fn filling(random: &mut Random, shape: Shape, size: usize, longest: u32) -> Vec<
     patterns
 }
 
-/// Inputs of 1 MiB, in every combination of widths, without a parameter of short patterns and with one of the longest: whole, cut at the end
-/// and within the pair table, with a pattern too many, and damaged.
+/// Inputs of 1 MiB, in every combination of widths, of short patterns or of the longest: whole, cut at the end and within the pair table, with
+/// a pattern too many, and damaged.
 fn mebibytes(tally: &mut Tally, random: &mut Random) {
-    for shape in Shape::all() {
-        let longest = if shape.parameter { MOST } else { random.pick(&[1, 3, 15]) };
-        let patterns = filling(random, shape, MIB, longest);
+    for mut shape in Shape::all().filter(|shape| !shape.parameter) {
+        shape.parameter = random.one_in(2);
+        let longest = random.pick(&[1, 15, MOST, MOST]);
+        let samples = random.pick(&[MOST, 100_000, 10_000, 1000]);
+        let patterns = filling(random, shape, MIB, longest, samples);
         let declared = patterns.len() as u32;
         let mut s = payload(random, shape, declared, &patterns).unwrap();
         let used = s.len();

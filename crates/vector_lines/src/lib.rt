@@ -1,32 +1,9 @@
-// Stored vectors: a file's lines, a line's record, and the answer of a call against the record's.
+// Stored vectors: lines, a line's record, and the answer of a call against the record's.
 //
 // A line is a record in lower-case hexadecimal. A record, all numbers big-endian: entry (1 byte), count of arguments (1), arguments (8 each),
 // length of the input (2), the input, status (1), count of numbers (1), numbers (8 each). Bytes that a record lacks are read as 0.
 ghost use Prim.Native.Nat.{_≤_, _<_};
 ghost use lib.ListN.{length};
-use libc::STDOUT_FILENO;
-
-// The file's bytes in front of `text`, and how many; 0 where it cannot be read.
-pub fn read_file(name: &[u8], text: &mut [u8]) -> usize {
-    let file = os::open_read(name);
-    if file < 0 {
-        os::fail(name);
-        return 0;
-    }
-    let n = io::read_full(file, text);
-    libc::close(file);
-    n
-}
-
-// Prints what was counted of a file.
-pub fn print_counts(name: &[u8], lines: u64, differ: u64) {
-    io::write_all(STDOUT_FILENO, name);
-    io::write_all(STDOUT_FILENO, b": ");
-    io::print_decimal(STDOUT_FILENO, lines);
-    io::write_all(STDOUT_FILENO, b" vectors, ");
-    io::print_decimal(STDOUT_FILENO, differ);
-    io::write_all(STDOUT_FILENO, b" differ\n");
-}
 
 // The first n bytes, or all.
 pub fn front(bytes: &[u8], n: usize) -> &[u8] {

@@ -1,5 +1,4 @@
-// Replays the stored answers of the Rust for sample tables and lookups (data/; docs/VECTORS.md says how they were made) and tells how many differ.
-ghost use Prim.Native.Nat.{_≤_};
+// Stored answers of the Rust for sample tables and lookups: whether the library gives the answer that a record has.
 
 // The record has this status and, with 0, the table's head and then its rows.
 fn same_table(record: &[u8], status: u32, head: &[u64], count: u64, rows: &[u32]) -> bool {
@@ -102,7 +101,7 @@ fn covered(record: &[u8]) -> bool {
 }
 
 // The entry that the record names, by its number in docs/VECTORS.md.
-fn agrees(record: &[u8]) -> bool {
+pub fn agrees(record: &[u8]) -> bool {
     match vector_lines::entry(record) {
         5 => table(record),
         6 => table(record),
@@ -110,47 +109,4 @@ fn agrees(record: &[u8]) -> bool {
         8 => covered(record),
         _ => false,
     }
-}
-
-// 0 where the library gives the answer that the record has, else 1.
-fn differs(record: &[u8]) -> u64
-    ensures { λ r. ⌜ r ≤ 1 ⌝ }
-{
-    if agrees(record) { 0 } else { 1 }
-}
-
-// What was counted: lines, and lines whose answer differs or that cannot be read.
-struct Counts {
-    lines: u64,
-    differ: u64,
-}
-
-// Replays each line; `bytes` is room for a line's record.
-fn count_lines(text: &[u8], bytes: &mut [u8]) -> Counts {
-    let mut lines: u64 = 0;
-    let mut differ: u64 = 0;
-    let mut at: usize = 0;
-    while at < text.len() {
-        let end = vector_lines::line_end(text, at);
-        let n = vector_lines::decode(text, at, end, bytes);
-        differ = differ + differs(vector_lines::front(bytes, n));
-        lines = lines + 1;
-        at = end + 1;
-    }
-    Counts { lines, differ }
-}
-
-// Replays a file and prints its counts.
-fn replay(name: &[u8]) {
-    let mut text = io::large_buffer();
-    let n = vector_lines::read_file(name, &mut text);
-    let mut bytes = io::buffer();
-    let counts = count_lines(vector_lines::front(&text, n), &mut bytes);
-    vector_lines::print_counts(name, counts.lines, counts.differ);
-}
-
-fn main() {
-    replay(b"tables");
-    replay(b"document");
-    replay(b"damaged");
 }

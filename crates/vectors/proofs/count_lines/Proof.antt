@@ -3,14 +3,14 @@ use native.Mathlib.Omega.{arith}
 use Prim.Native.Nat.{_+_, _-_, _*_, _/_, _≤_}
 use lib.ListN.{length}
 use mathlib.Core.Path.{_≡_}
-use Rattle.vectors_descriptions.proofs.count_lines.Statement.{statement}
-use Rattle.vectors_descriptions.proofs.count_lines.Tie as tie
-use Rattle.vectors_descriptions.proofs.count_lines.Reads as reads
-use Rattle.vectors_descriptions.proofs.count_lines.Lts as lts
+use Rattle.vectors.proofs.count_lines.Statement.{statement}
+use Rattle.vectors.proofs.count_lines.Tie as tie
+use Rattle.vectors.proofs.count_lines.Reads as reads
+use Rattle.vectors.proofs.count_lines.Lts as lts
 use Rattle.vector_lines.proofs.decode.Reads as decode-reads
 use Rattle.vector_lines.proofs.front.Reads as front-reads
 use Rattle.vector_lines.proofs.line_end.Reads as line-end-reads
-use Rattle.vectors_descriptions.proofs.differs.Reads as differs-reads
+use Rattle.vectors.proofs.differs.Reads as differs-reads
 
 abbrev Inv-loop : tie.InvT-loop
 Inv-loop text bytes₀ lines₀ differ₀ at₀ bytes lines differ at = (at ≤ length text + 1) × (lines ≤ at) × (differ ≤ lines) × (length bytes ≡ length bytes₀)

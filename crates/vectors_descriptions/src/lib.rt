@@ -1,5 +1,4 @@
-// Replays the stored answers of the Rust for group descriptions and their typed entries (data/; docs/VECTORS.md says how they were made) and tells how many differ.
-ghost use Prim.Native.Nat.{_≤_};
+// Stored answers of the Rust for descriptions and typed entries: whether the library gives the answer that a record has.
 
 fn sgpd(record: &[u8]) -> bool {
     let mut out = [0u64; 5];
@@ -107,7 +106,7 @@ fn piece(record: &[u8]) -> bool {
 }
 
 // The entry that the record names, by its number in docs/VECTORS.md.
-fn agrees(record: &[u8]) -> bool {
+pub fn agrees(record: &[u8]) -> bool {
     match vector_lines::entry(record) {
         9 => sgpd(record),
         10 => place(record),
@@ -123,46 +122,4 @@ fn agrees(record: &[u8]) -> bool {
         20 => piece(record),
         _ => false,
     }
-}
-
-// 0 where the library gives the answer that the record has, else 1.
-fn differs(record: &[u8]) -> u64
-    ensures { λ r. ⌜ r ≤ 1 ⌝ }
-{
-    if agrees(record) { 0 } else { 1 }
-}
-
-// What was counted: lines, and lines whose answer differs or that cannot be read.
-struct Counts {
-    lines: u64,
-    differ: u64,
-}
-
-// Replays each line; `bytes` is room for a line's record.
-fn count_lines(text: &[u8], bytes: &mut [u8]) -> Counts {
-    let mut lines: u64 = 0;
-    let mut differ: u64 = 0;
-    let mut at: usize = 0;
-    while at < text.len() {
-        let end = vector_lines::line_end(text, at);
-        let n = vector_lines::decode(text, at, end, bytes);
-        differ = differ + differs(vector_lines::front(bytes, n));
-        lines = lines + 1;
-        at = end + 1;
-    }
-    Counts { lines, differ }
-}
-
-// Replays a file and prints its counts.
-fn replay(name: &[u8]) {
-    let mut text = io::large_buffer();
-    let n = vector_lines::read_file(name, &mut text);
-    let mut bytes = io::buffer();
-    let counts = count_lines(vector_lines::front(&text, n), &mut bytes);
-    vector_lines::print_counts(name, counts.lines, counts.differ);
-}
-
-fn main() {
-    replay(b"descriptions");
-    replay(b"damaged");
 }
