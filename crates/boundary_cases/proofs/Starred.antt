@@ -5,7 +5,7 @@ use Rattle.atom.specs.Atom.{headerAt, declaredAt}
 use Rattle.rows.specs.Row.{rowsOf, covered, indexAt}
 use Rattle.rows.specs.Pattern.{indexIn, samplesFrom, samplesOf, enter, replay}
 use Rattle.sbgp.specs.Sbgp.{readRows, sbgp}
-use Rattle.csgp.specs.Csgp.{widthOf, readPairs, readIndices, readPatterns, csgp}
+use Rattle.csgp_patterns.specs.Csgp.{widthOf, readPairs, readIndices, readPatterns, csgp}
 use Rattle.entries.specs.Decoded.{signed16, decodeRoll, decodeRash, decodeAlst}
 use Rattle.sgpd.specs.Sgpd.{implicitLength, spanAt, spans, sgpd}
 use Rattle.boundary_cases.specs.Case.{AllHold}

@@ -4,7 +4,7 @@ use mathlib.Core.List.{List, [], _∷_, _++_, map}
 use Rattle.fields.specs.Answer.{Answer, given, refused}
 use Rattle.rows.specs.Row.{Row, Table, rowsOf, indexAt, covered}
 use Rattle.sbgp.specs.Sbgp.{parseSbgp}
-use Rattle.csgp.specs.Csgp.{parseCsgp}
+use Rattle.csgp.specs.Table.{parseCsgp}
 use Rattle.boundary_cases.specs.Case.{Case, gives}
 
 -- version and flags 0, and the type "rap "

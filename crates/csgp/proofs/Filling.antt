@@ -18,16 +18,16 @@ use Rattle.replay.specs.declared.periods.Mark.{Mark}
 use Rattle.replay.proofs.Entering.{below, grown}
 use Rattle.replay.proofs.Passing.{Growth}
 use Rattle.replay.proofs.Copying.{Place, Written, put, place-below, copy-growth}
-use Rattle.csgp.specs.Csgp.{csgp}
-use Rattle.csgp.specs.Layout.{patternAt, Fixed, PairTold}
-use Rattle.csgp.specs.Stretch.{indexBits, IsStretch}
-use Rattle.csgp.specs.Stream.{firstRun}
+use Rattle.csgp_patterns.specs.Csgp.{csgp}
+use Rattle.csgp_patterns.specs.Layout.{patternAt, Fixed, PairTold}
+use Rattle.csgp_patterns.specs.Stretch.{indexBits, IsStretch}
+use Rattle.csgp_patterns.specs.Stream.{firstRun}
 use Rattle.csgp.specs.Replay.{rowsFor, filledRows}
-use Rattle.csgp.specs.declared.layout.CsgpLayout.{CsgpLayout}
-use Rattle.csgp.specs.declared.layout.PatternsAt.{PatternsAt}
-use Rattle.csgp.specs.declared.layout.PatternPair.{PatternPair}
-use Rattle.csgp.specs.declared.stretch.Stretch.{Stretch}
-use Rattle.csgp.specs.declared.stream.RunCursor.{RunCursor}
+use Rattle.csgp_patterns.specs.declared.layout.CsgpLayout.{CsgpLayout}
+use Rattle.csgp_patterns.specs.declared.layout.PatternsAt.{PatternsAt}
+use Rattle.csgp_patterns.specs.declared.layout.PatternPair.{PatternPair}
+use Rattle.csgp_patterns.specs.declared.stretch.Stretch.{Stretch}
+use Rattle.csgp_patterns.specs.declared.stream.RunCursor.{RunCursor}
 use Rattle.csgp.proofs.Tails.{Replaying, replaying-first, replaying-end}
 use Rattle.csgp.proofs.Passing.{grows, Periodic, turn-entered, turn-passed}
 

@@ -1,11 +1,5 @@
-pub mod Given
-pub mod Widths
-pub mod Patterns
-pub mod Check
-pub mod Stretches
-pub mod Walk
-pub mod Passing
 pub mod Tails
+pub mod Passing
 pub mod Filling
 pub mod Parse
 pub mod Lookup

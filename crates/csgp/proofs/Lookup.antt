@@ -8,8 +8,9 @@ use Rattle.rows.specs.Row.{Row, Table, covered, indexAt, recordLimit, filled, l
 use Rattle.rows.specs.Pattern.{Pattern, samplesOf, coveredBy, indexOf, replay}
 use Rattle.rows.proofs.Front.{lookup-front}
 use Rattle.rows.proofs.Replay.{replay-index, replay-covered}
-use Rattle.csgp.specs.Csgp.{csgp, tableOf, parseCsgp}
-use Rattle.csgp.proofs.Given.{given-inj, given-first}
+use Rattle.csgp_patterns.specs.Csgp.{csgp}
+use Rattle.csgp.specs.Table.{tableOf, parseCsgp}
+use Rattle.csgp_patterns.proofs.Given.{given-inj, given-first}
 
 module _ (s : List ℕ) (room : ℕ) {t : Table} {ps : List Pattern} (accepted : parseCsgp s room ≡ given t) (patterns : csgp s ≡ given ps) where
   rows-of : (out : List Row) × (replay room [] (samplesOf ps) ≡ given out) × (t .rows ≡ reverse out)

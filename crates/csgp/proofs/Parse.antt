@@ -9,10 +9,11 @@ use Rattle.rows.specs.Row.{Row}
 use Rattle.rows.specs.Pattern.{Pattern, samplesOf, replay}
 use Rattle.rows.specs.Found.{Parses}
 use Rattle.rows.specs.declared.ParsedTable.the-variants as parsed
-use Rattle.csgp.specs.Csgp.{csgp, tableOf, parseCsgp}
-use Rattle.csgp.specs.Layout.{Fixed}
+use Rattle.csgp_patterns.specs.Csgp.{csgp}
+use Rattle.csgp.specs.Table.{tableOf, parseCsgp}
+use Rattle.csgp_patterns.specs.Layout.{Fixed}
 use Rattle.csgp.specs.Replay.{rowsFor, filledRows}
-use Rattle.csgp.specs.declared.layout.CsgpLayout.{CsgpLayout}
+use Rattle.csgp_patterns.specs.declared.layout.CsgpLayout.{CsgpLayout}
 
 module _ (s : List ℕ) (room : ℕ) where
   pub parse-rows : parseCsgp s room ≡ andThen (rowsFor s room) (λ rows. given (tableOf s rows))

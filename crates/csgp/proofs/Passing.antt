@@ -16,16 +16,16 @@ use Rattle.replay.specs.Periods.{Repeats, repeated, Passes, Overfull}
 use Rattle.replay.specs.declared.enter.Tail.{Tail}
 use Rattle.replay.specs.declared.periods.Mark.{Mark}
 use Rattle.replay.proofs.Passing.{Marked, Growth, marked-here, marked-run, marked-still, growth}
-use Rattle.csgp.specs.Stream.{Ahead, Runs}
-use Rattle.csgp.specs.Stretch.{indexBits, IsStretch}
-use Rattle.csgp.specs.Layout.{patternAt, pairAt, Fixed, PairTold}
+use Rattle.csgp_patterns.specs.Stream.{Ahead, Runs}
+use Rattle.csgp_patterns.specs.Stretch.{indexBits, IsStretch}
+use Rattle.csgp_patterns.specs.Layout.{patternAt, pairAt, Fixed, PairTold}
 use Rattle.csgp.specs.Replay.{rowsFor}
-use Rattle.csgp.specs.declared.layout.CsgpLayout.{CsgpLayout}
-use Rattle.csgp.specs.declared.layout.PatternsAt.{PatternsAt}
-use Rattle.csgp.specs.declared.layout.PatternPair.{PatternPair}
-use Rattle.csgp.specs.declared.stretch.Stretch.{Stretch}
-use Rattle.csgp.proofs.Patterns.{indices-length}
-use Rattle.csgp.proofs.Walk.{samples-on, stretch-samples, walk-run, stretch-fits}
+use Rattle.csgp_patterns.specs.declared.layout.CsgpLayout.{CsgpLayout}
+use Rattle.csgp_patterns.specs.declared.layout.PatternsAt.{PatternsAt}
+use Rattle.csgp_patterns.specs.declared.layout.PatternPair.{PatternPair}
+use Rattle.csgp_patterns.specs.declared.stretch.Stretch.{Stretch}
+use Rattle.csgp_patterns.proofs.Patterns.{indices-length}
+use Rattle.csgp_patterns.proofs.Walk.{samples-on, stretch-samples, walk-run, stretch-fits}
 use Rattle.csgp.proofs.Tails.{Replaying, entered, rows-standing, replaying-refused, replaying-run}
 
 -- periods passed, or too many

@@ -11,13 +11,13 @@ use Rattle.rows.proofs.Replay.{replay-append, replay-room}
 use Rattle.replay.specs.Enter.{tailOf, enterRun}
 use Rattle.replay.specs.declared.enter.Tail.{Tail}
 use Rattle.replay.proofs.Entering.{withRun, Told, enter-told, tail-length}
-use Rattle.csgp.specs.Csgp.{csgp}
-use Rattle.csgp.specs.Layout.{Fixed}
-use Rattle.csgp.specs.Stream.{Ahead, firstRun, Runs}
+use Rattle.csgp_patterns.specs.Csgp.{csgp}
+use Rattle.csgp_patterns.specs.Layout.{Fixed}
+use Rattle.csgp_patterns.specs.Stream.{Ahead, firstRun, Runs}
 use Rattle.csgp.specs.Replay.{rowsFor}
-use Rattle.csgp.specs.declared.layout.CsgpLayout.{CsgpLayout}
-use Rattle.csgp.specs.declared.stream.RunCursor.{RunCursor}
-use Rattle.csgp.proofs.Walk.{walk-first}
+use Rattle.csgp_patterns.specs.declared.layout.CsgpLayout.{CsgpLayout}
+use Rattle.csgp_patterns.specs.declared.stream.RunCursor.{RunCursor}
+use Rattle.csgp_patterns.proofs.Walk.{walk-first}
 
 -- a replay on its way: the rows so far, and the samples to come, decide the rows of the payload
 pub record Replaying (s : List ℕ) (room : ℕ) (c : RunCursor) (tail : Tail) : Type 0 where

@@ -5,7 +5,7 @@ use lib.ListN.{length, drop}
 use Rattle.fields.specs.Answer.{Answer, given, none, refused, andThen}
 use Rattle.rows.specs.Row.{Row, flat}
 use Rattle.rows.specs.Pattern.{samplesOf, replay}
-use Rattle.csgp.specs.Csgp.{csgp}
+use Rattle.csgp_patterns.specs.Csgp.{csgp}
 use Rattle.csgp.specs.declared.measure.Measured.{Measured}
 use Rattle.csgp.specs.declared.measure.Measured.the-variants as measured
 

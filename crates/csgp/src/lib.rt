@@ -1,16 +1,13 @@
 // The compact sample-to-group atom csgp (document 01, part 4).
 mod fill;
-pub mod layout;
 mod measure;
-pub mod stream;
-mod stretch;
 
 ghost use mathlib.Core.Path.{_≡_};
 ghost use Rattle.rows.specs.Row.{recordsIn};
 ghost use Rattle.rows.specs.Found.{Parses};
-ghost use Rattle.csgp.specs.Csgp.{parseCsgp};
-use layout::ReadLayout;
-use layout::csgp_layout;
+ghost use Rattle.csgp.specs.Table.{parseCsgp};
+use csgp_patterns::layout::ReadLayout;
+use csgp_patterns::layout::csgp_layout;
 use measure::Measured;
 use measure::measure;
 use rows::ParsedTable;

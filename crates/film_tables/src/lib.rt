@@ -3,7 +3,7 @@ ghost use mathlib.Core.Path.{_≡_};
 ghost use Rattle.rows.specs.Row.{recordsIn, lookup, total};
 ghost use Rattle.rows.specs.Found.{foundOf, coveredOf, parsedOf};
 ghost use Rattle.sbgp.specs.Sbgp.{parseSbgp};
-ghost use Rattle.csgp.specs.Csgp.{parseCsgp};
+ghost use Rattle.csgp.specs.Table.{parseCsgp};
 ghost use Rattle.film_status.specs.Status.{Returns, oneNumber};
 ghost use Rattle.film_tables.specs.Tables.{Fills, headNumbers};
 use rows::Covered;

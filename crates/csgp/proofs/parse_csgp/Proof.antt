@@ -3,11 +3,11 @@ use borrow.Author.Needs.{needs}
 use lib.ListN.{length}
 use Rattle.fields.specs.Answer.{given, andThen}
 use Rattle.rows.specs.Row.{recordsIn}
-use Rattle.csgp.specs.Layout.{LayoutTold, Laid}
+use Rattle.csgp_patterns.specs.Layout.{LayoutTold, Laid}
 use Rattle.csgp.specs.Replay.{rowsFor, measuredOf}
-use Rattle.csgp.specs.declared.layout.ReadLayout.{ReadLayout}
+use Rattle.csgp_patterns.specs.declared.layout.ReadLayout.{ReadLayout}
 use Rattle.csgp.specs.declared.measure.Measured.{Measured}
-use Rattle.csgp.proofs.Given.{given-inj, given-first}
+use Rattle.csgp_patterns.proofs.Given.{given-inj, given-first}
 use Rattle.csgp.proofs.Parse.{parse-refused, parse-given, refused-rows}
 use Rattle.csgp.proofs.parse_csgp.Statement.{statement}
 use Rattle.csgp.proofs.parse_csgp.Tie as tie

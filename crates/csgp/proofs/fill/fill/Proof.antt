@@ -12,9 +12,9 @@ use Rattle.replay.specs.declared.enter.Entered.{Entered}
 use Rattle.replay.specs.declared.enter.Entered.the-variants as entered
 use Rattle.replay.specs.declared.periods.Passed.{Passed}
 use Rattle.replay.specs.declared.periods.Passed.the-variants as passes
-use Rattle.csgp.specs.declared.layout.PatternsAt.{PatternsAt}
-use Rattle.csgp.proofs.Given.{refused-given}
-use Rattle.csgp.proofs.Walk.{walk-step, walk-end, walk-next, stretch-fits, behind-fits}
+use Rattle.csgp_patterns.specs.declared.layout.PatternsAt.{PatternsAt}
+use Rattle.csgp_patterns.proofs.Given.{refused-given}
+use Rattle.csgp_patterns.proofs.Walk.{walk-step, walk-end, walk-next, stretch-fits, behind-fits}
 use Rattle.csgp.proofs.Tails.{replaying-at}
 use Rattle.csgp.proofs.Passing.{periodic-first, turn-refused, turn-fits, turn-full}
 use Rattle.csgp.proofs.Filling.{Filling, filling-first, filling-end, Filled, copy-fits, put-fits, filled-turn}

@@ -14,8 +14,8 @@ use Rattle.replay.specs.declared.enter.Entered.{Entered}
 use Rattle.replay.specs.declared.enter.Entered.the-variants as entered
 use Rattle.replay.specs.declared.periods.Passed.{Passed}
 use Rattle.replay.specs.declared.periods.Passed.the-variants as passes
-use Rattle.csgp.specs.declared.layout.PatternsAt.{PatternsAt}
-use Rattle.csgp.proofs.Walk.{walk-step, walk-end, walk-next, stretch-fits, behind-fits}
+use Rattle.csgp_patterns.specs.declared.layout.PatternsAt.{PatternsAt}
+use Rattle.csgp_patterns.proofs.Walk.{walk-step, walk-end, walk-next, stretch-fits, behind-fits}
 use Rattle.csgp.proofs.Tails.{Replaying, replaying-first, replaying-end, replaying-at, rows-standing}
 use Rattle.csgp.proofs.Passing.{Periodic, periodic-first, turn-refused, turn-fits, turn-full, turn-passed}
 use Rattle.csgp.proofs.measure.measure.Statement.{statement}

@@ -1,0 +1,4 @@
+pub mod Csgp
+pub mod Layout
+pub mod Stretch
+pub mod Stream
