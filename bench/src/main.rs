@@ -11,6 +11,10 @@ unsafe extern "C" {
     fn film_parse_sbgp(s: *const u8, len: usize, rows: *mut u32, rows_len: usize, out: *mut u64) -> u32;
     fn film_parse_csgp(s: *const u8, len: usize, rows: *mut u32, rows_len: usize, out: *mut u64) -> u32;
     fn film_group_index_for_sample(rows: *const u32, rows_len: usize, sample: u32, out: *mut u64) -> u32;
+    fn film_parse_sgpd(s: *const u8, len: usize, out: *mut u64) -> u32;
+    fn film_entry_place(s: *const u8, len: usize, index: u32, out: *mut u64) -> u32;
+    fn film_decode_rash(s: *const u8, len: usize, out: *mut u64) -> u32;
+    fn film_rash_operation_point(s: *const u8, len: usize, k: u32, out: *mut u64) -> u32;
 }
 
 type Parser = unsafe extern "C" fn(*const u8, usize, *mut u32, usize, *mut u64) -> u32;
@@ -90,6 +94,56 @@ fn looked_up(side: &str) {
     }
 }
 
+/// An sgpd of a thousand entries of 4 bytes, by a default length or by a length before each.
+fn sgpd(prefixed: bool) -> Vec<u8> {
+    let length = if prefixed { 0 } else { 4u32 };
+    let mut s = [[1, 0, 0, 0], *b"abcd", length.to_be_bytes(), 1000u32.to_be_bytes()].concat();
+    for k in 0..1000u32 {
+        if prefixed {
+            s.extend(4u32.to_be_bytes());
+        }
+        s.extend(k.to_be_bytes());
+    }
+    s
+}
+
+/// A payload read whole, and its last entry found.
+fn described(side: &str, prefixed: bool) {
+    let s = black_box(sgpd(prefixed));
+    match side {
+        "ours" => {
+            let (mut head, mut place) = ([0u64; 5], [0u64; 2]);
+            assert_eq!(unsafe { film_parse_sgpd(s.as_ptr(), s.len(), head.as_mut_ptr()) }, 0);
+            assert_eq!(unsafe { film_entry_place(s.as_ptr(), s.len(), 1000, place.as_mut_ptr()) }, 0);
+            black_box((head, place));
+        }
+        "rust" => drop(black_box(sample_groups::parse_sgpd(&s).unwrap()).entry(black_box(1000)).map(black_box)),
+        _ => {}
+    }
+}
+
+/// A rash of a hundred points, each of which is asked for.
+fn decoded(side: &str) {
+    let mut s = 100u16.to_be_bytes().to_vec();
+    s.extend((0..609).map(|k| k as u8));
+    let s = black_box(s);
+    match side {
+        "ours" => {
+            let (mut head, mut point) = ([0u64; 4], [0u64; 2]);
+            assert_eq!(unsafe { film_decode_rash(s.as_ptr(), s.len(), head.as_mut_ptr()) }, 0);
+            for k in 0..100 {
+                assert_eq!(unsafe { film_rash_operation_point(s.as_ptr(), s.len(), k, point.as_mut_ptr()) }, 0);
+                black_box(&point);
+            }
+        }
+        "rust" => {
+            let rash = black_box(sample_groups::decode_rash(&s).unwrap());
+            rash.operation_points.iter().for_each(|point| drop(black_box(point)));
+        }
+        _ => {}
+    }
+}
+
 /// A csgp whose rows stay the same in number while its samples grow.
 fn grow(shape: &str, samples: u32, calls: u32) {
     let s = match shape {
@@ -117,12 +171,15 @@ pub fn main() {
     let words: Vec<String> = std::env::args().skip(1).collect();
     let words: Vec<&str> = words.iter().map(String::as_str).collect();
     match words[..] {
-        ["list"] => println!("walk_children parse_sbgp parse_csgp_wraps parse_csgp_uniform group_index_for_sample"),
+        ["list"] => println!("walk_children parse_sbgp parse_csgp_wraps parse_csgp_uniform group_index_for_sample sgpd_default_length sgpd_lengths rash_points"),
         ["walk_children", side] => walked(side),
         ["parse_sbgp", side] => parsed(side, sbgp(), 1000, film_parse_sbgp, sample_groups::parse_sbgp),
         ["parse_csgp_wraps", side] => parsed(side, csgp(&[(9000, &[1, 2, 2])]), 6001, film_parse_csgp, sample_groups::parse_csgp),
         ["parse_csgp_uniform", side] => parsed(side, csgp(&[(9000, &[1])]), 1, film_parse_csgp, sample_groups::parse_csgp),
         ["group_index_for_sample", side] => looked_up(side),
+        ["sgpd_default_length", side] => described(side, false),
+        ["sgpd_lengths", side] => described(side, true),
+        ["rash_points", side] => decoded(side),
         ["periods", length, count, calls] => periods(length.parse().unwrap(), count.parse().unwrap(), calls.parse().unwrap()),
         ["grow", shape, samples, calls] => grow(shape, samples.parse().unwrap(), calls.parse().unwrap()),
         _ => panic!("bench ENTRY ours|rust|none"),
