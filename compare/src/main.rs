@@ -5,6 +5,7 @@ mod atoms;
 mod csgp;
 mod entries;
 mod ffi;
+mod limits;
 mod random;
 mod sbgp;
 mod sgpd;
@@ -35,7 +36,7 @@ pub fn main() {
         vectors.print();
         return;
     }
-    let parts: [fn(&mut tally::Tally); 6] = [csgp::run, csgp::run_long, atoms::run, sgpd::run, entries::run, sbgp::run];
+    let parts: [fn(&mut tally::Tally); 7] = [csgp::run, csgp::run_long, atoms::run, sgpd::run, entries::run, sbgp::run, limits::run];
     let tallies = std::thread::scope(|threads| {
         let running = parts.map(|part| {
             threads.spawn(move || {

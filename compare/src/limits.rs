@@ -1,0 +1,57 @@
+//! Document 01's 55, which the Rust does not have: every entry refuses an input one byte over the limit before anything else, also before none
+//! and done, and an input at the limit is not refused by it.
+
+use super::ffi::{self, Answer, Input};
+use super::tally::Tally;
+
+const BYTES: usize = 67_108_864;
+const RECORDS: usize = 8_388_608;
+
+fn too_long<T>(told: Answer<T>) -> bool {
+    matches!(told, Answer::Refused(55))
+}
+
+pub fn run(tally: &mut Tally) {
+    let long = Input::new(&vec![0; BYTES + 1]);
+    let short = Input::new(&[0; 16]);
+    for len in [BYTES, BYTES + 1] {
+        let mut check = |entry, refused| tally.same(entry, refused, len > BYTES, &|| format!("55 for {len} zero bytes"));
+        for at in [0, BYTES as u64, u64::MAX] {
+            check("read_atom_header", too_long(ffi::read_atom_header(&long, len, at)));
+            check("next_child", too_long(ffi::next_child(&long, len, at, None)));
+            check("next_child", too_long(ffi::next_child(&long, len, at, Some(0))));
+            check("read_payload", too_long(ffi::read_payload(&long, len, at)));
+            check("read_payload_bounded", too_long(ffi::read_payload_bounded(&long, len, at, 0)));
+        }
+        check("parse_sbgp", too_long(ffi::parse_sbgp(&long, len, 4)));
+        check("parse_csgp", too_long(ffi::parse_csgp(&long, len, 4)));
+        check("parse_sgpd", too_long(ffi::parse_sgpd(&long, len)));
+        check("entry", too_long(ffi::entry_place(&long, len, 0)));
+        check("entry", too_long(ffi::entry_place(&long, len, u32::MAX)));
+        check("described", too_long(ffi::described_place(&long, len, &short, 16, 0)));
+        check("described", too_long(ffi::described_place(&short, 16, &long, len, 0)));
+        check("described", too_long(ffi::described_place(&short, 1, &long, len, 0)));
+        check("decode_roll", too_long(ffi::decode_roll(&long, len, false)));
+        check("decode_prol", too_long(ffi::decode_roll(&long, len, true)));
+        check("decode_rap", too_long(ffi::decode_rap(&long, len)));
+        check("decode_tele", too_long(ffi::decode_tele(&long, len)));
+        check("decode_sap", too_long(ffi::decode_sap(&long, len)));
+        check("decode_rash", too_long(ffi::decode_rash(&long, len)));
+        check("rash_operation_point", too_long(ffi::rash_operation_point(&long, len, u32::MAX)));
+        check("decode_alst", too_long(ffi::decode_alst(&long, len)));
+        check("alst_sample_offset", too_long(ffi::alst_sample_offset(&long, len, u32::MAX)));
+        check("alst_piece", too_long(ffi::alst_piece(&long, len, u32::MAX)));
+        for kind in [b"roll", b"abcd"].map(|kind| u32::from_be_bytes(*kind)) {
+            check("decode_alike", too_long(ffi::decode_alike(kind, &long, len, &short, 16)));
+            check("decode_alike", too_long(ffi::decode_alike(kind, &short, 16, &long, len)));
+        }
+    }
+    long.check();
+    let rows = vec![0u32; 2 * RECORDS + 2];
+    for numbers in [2 * RECORDS, 2 * RECORDS + 1, 2 * RECORDS + 2] {
+        let mut check = |entry, refused| tally.same(entry, refused, numbers / 2 > RECORDS, &|| format!("55 for {numbers} numbers"));
+        check("group_index_for_sample", too_long(ffi::group_index_for_sample(&rows[..numbers], 0)));
+        check("covered_samples", too_long(ffi::covered_samples(&rows[..numbers])));
+    }
+    assert!(rows.iter().all(|&n| n == 0), "rows were written");
+}
