@@ -3,8 +3,9 @@ use Prim.Native.Nat.{ℕ}
 use mathlib.Core.List.{List, [], _∷_, _++_}
 use mathlib.Core.Option.{Option, none, some}
 use lib.Dec.{eqb}
-use Rattle.fields.specs.Answer.{choose}
-use Rattle.atom.specs.Atom.{Known, Header, Child, Body}
+use Rattle.base_fields.specs.Answer.{choose}
+use Rattle.atom_tree.specs.Atom.{Known, Header, Child}
+use Rattle.base_fields.specs.Span.{Span}
 
 -- 1 where the number is absent
 abbrev pub absent : Known → ℕ
@@ -23,7 +24,7 @@ headerNumbers h = h .type ∷ absent (h .size) ∷ orZero (h .size) ∷ h .heade
 abbrev pub childNumbers : Child → List ℕ
 childNumbers c = c .next ∷ headerNumbers (c .head)
 
-abbrev pub bodyNumbers : Body → List ℕ
+abbrev pub bodyNumbers : Span → List ℕ
 bodyNumbers b = b .place ∷ b .size ∷ []
 
 -- the end of a parent: 0 for the first number says that it is not known

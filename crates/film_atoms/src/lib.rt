@@ -1,15 +1,15 @@
 // The C interface: headers, children and bodies of atoms.
 ghost use mathlib.Core.Path.{_≡_};
 ghost use mathlib.Core.Option.{none, some};
-ghost use Rattle.atom.specs.Atom.{headerAt, childAt, bodyAt};
-ghost use Rattle.atom.specs.Told.{sizeOf, parentEnd, toldHeader, toldChild, toldPayload};
+ghost use Rattle.atom_tree.specs.Atom.{headerAt, childAt, bodyAt};
+ghost use Rattle.atom_tree.specs.Told.{sizeOf, parentEnd, toldHeader, toldChild, toldPayload};
 ghost use Rattle.film_status.specs.Status.{Returns};
 ghost use Rattle.film_atoms.specs.Atoms.{absent, orZero, endFrom, headerNumbers, childNumbers, bodyNumbers};
-use atom::NextChild;
-use atom::ParentEnd;
-use atom::ReadHeader;
-use atom::ReadPayload;
-use atom::TotalSize;
+use atom_tree::NextChild;
+use atom_tree::ParentEnd;
+use atom_tree::ReadHeader;
+use atom_tree::ReadPayload;
+use atom_tree::TotalSize;
 use film_status::NONE;
 
 fn open_flag(size: TotalSize) -> u64
@@ -99,7 +99,7 @@ fn put_payload(body: ReadPayload, out: &mut [u64; 2]) -> u32
 pub extern "C" fn film_read_atom_header(s: &[u8], at: u64, out: &mut [u64; 5]) -> u32
     ensures { λ r. ⌜ Returns (headerAt (now (s .entry)) at) headerNumbers (now (out .entry)) (now (out .exit)) r ⌝ }
 {
-    put_header(atom::read_atom_header(s, at), out)
+    put_header(atom_tree::read_atom_header(s, at), out)
 }
 
 // out: place of the next child, then the numbers of the child's header. The parent's end counts where `known` is not 0.
@@ -113,7 +113,7 @@ pub extern "C" fn film_next_child(
 ) -> u32
     ensures { λ r. ⌜ Returns (childAt (now (s .entry)) at (endFrom known end)) childNumbers (now (out .entry)) (now (out .exit)) r ⌝ }
 {
-    put_child(atom::next_child(s, at, parent_end(known, end)), out)
+    put_child(atom_tree::next_child(s, at, parent_end(known, end)), out)
 }
 
 // out: place and length of the body.
@@ -121,7 +121,7 @@ pub extern "C" fn film_next_child(
 pub extern "C" fn film_read_payload(s: &[u8], at: u64, out: &mut [u64; 2]) -> u32
     ensures { λ r. ⌜ Returns (bodyAt (now (s .entry)) at none) bodyNumbers (now (out .entry)) (now (out .exit)) r ⌝ }
 {
-    put_payload(atom::read_payload(s, at), out)
+    put_payload(atom_tree::read_payload(s, at), out)
 }
 
 // The same under an envelope of `max_remaining` bytes.
@@ -134,5 +134,5 @@ pub extern "C" fn film_read_payload_bounded(
 ) -> u32
     ensures { λ r. ⌜ Returns (bodyAt (now (s .entry)) at (some «max_remaining»)) bodyNumbers (now (out .entry)) (now (out .exit)) r ⌝ }
 {
-    put_payload(atom::read_payload_bounded(s, at, max_remaining), out)
+    put_payload(atom_tree::read_payload_bounded(s, at, max_remaining), out)
 }

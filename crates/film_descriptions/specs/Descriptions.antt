@@ -1,8 +1,9 @@
 -- The numbers of descriptions, of an entry's place and of a split index, in the order in which the C interface hands them out.
 use Prim.Native.Nat.{ℕ}
 use mathlib.Core.List.{List, [], _∷_}
-use Rattle.sgpd.specs.Sgpd.{Span, Description}
-use Rattle.fragments.specs.Fragments.{Part, indexOf, localBit}
+use Rattle.group_sgpd.specs.Sgpd.{Description}
+use Rattle.base_fields.specs.Span.{Span}
+use Rattle.group_fragments.specs.Fragments.{Part, localBit, plainIndex}
 use Rattle.film_status.specs.Status.{bit}
 
 -- version, type, default length, default index, entry count
@@ -17,4 +18,4 @@ abbrev pub partNumbers : Part → List ℕ
 partNumbers p = bit (p .local) ∷ spanNumbers (p .span)
 
 abbrev pub splitNumbers : ℕ → List ℕ
-splitNumbers raw = indexOf raw ∷ bit (localBit raw) ∷ []
+splitNumbers raw = plainIndex raw ∷ bit (localBit raw) ∷ []

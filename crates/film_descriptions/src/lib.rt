@@ -1,24 +1,24 @@
 // The C interface: group descriptions, film-wide and of a fragment, and the rate of a point.
 ghost use mathlib.Core.Path.{_≡_};
 ghost use Prim.Native.Nat.{_*_, _/_};
-ghost use Rattle.fields.specs.Answer.{given};
-ghost use Rattle.fragments.specs.Fragments.{describedAt};
-ghost use Rattle.sgpd.specs.Sgpd.{parseSgpd, entryAt};
+ghost use Rattle.base_fields.specs.Answer.{given};
+ghost use Rattle.group_fragments.specs.Fragments.{describedAt};
+ghost use Rattle.group_sgpd.specs.Sgpd.{parseSgpd, entryAt};
 ghost use Rattle.film_status.specs.Status.{Returns};
 ghost use Rattle.film_descriptions.specs.Descriptions.{descriptionNumbers, spanNumbers, partNumbers, splitNumbers};
+use base_ids::DescriptionIndex;
 use film_status::NONE;
 use film_status::bit_of;
-use fragments::FoundPart;
-use rows::DescriptionIndex;
-use sgpd::FoundEntry;
-use sgpd::ParsedSgpd;
+use group_fragments::FoundPart;
+use group_sgpd::FoundEntry;
+use group_sgpd::ParsedSgpd;
 
 // out: version, type, default length, default index, entry count.
 #[no_mangle]
 pub extern "C" fn film_parse_sgpd(s: &[u8], out: &mut [u64; 5]) -> u32
     ensures { λ r. ⌜ Returns (parseSgpd (now (s .entry))) descriptionNumbers (now (out .entry)) (now (out .exit)) r ⌝ }
 {
-    let read = sgpd::parse_sgpd(s);
+    let read = group_sgpd::parse_sgpd(s);
     match read {
         ParsedSgpd::Description(d) => {
             out[0] = d.version as u64;
@@ -37,7 +37,7 @@ pub extern "C" fn film_parse_sgpd(s: &[u8], out: &mut [u64; 5]) -> u32
 pub extern "C" fn film_entry_place(s: &[u8], index: u32, out: &mut [u64; 2]) -> u32
     ensures { λ r. ⌜ Returns (entryAt (now (s .entry)) index) spanNumbers (now (out .entry)) (now (out .exit)) r ⌝ }
 {
-    let read = sgpd::entry_place(s, DescriptionIndex(index));
+    let read = group_sgpd::entry_place(s, DescriptionIndex(index));
     match read {
         FoundEntry::Entry(place, size) => {
             out[0] = place as u64;
@@ -54,7 +54,7 @@ pub extern "C" fn film_entry_place(s: &[u8], index: u32, out: &mut [u64; 2]) -> 
 pub extern "C" fn film_split_csgp_index(raw: u32, out: &mut [u64; 2]) -> u32
     ensures { λ r. ⌜ Returns (given raw) splitNumbers (now (out .entry)) (now (out .exit)) r ⌝ }
 {
-    let split = fragments::split_csgp_index(raw);
+    let split = group_fragments::split_csgp_index(raw);
     out[0] = split.index as u64;
     out[1] = bit_of(split.fragment_local);
     0
@@ -70,7 +70,7 @@ pub extern "C" fn film_described_place(
 ) -> u32
     ensures { λ r. ⌜ Returns (describedAt (now (film .entry)) (now (fragment .entry)) raw) partNumbers (now (out .entry)) (now (out .exit)) r ⌝ }
 {
-    let read = fragments::described_place(film, fragment, raw);
+    let read = group_fragments::described_place(film, fragment, raw);
     match read {
         FoundPart::Film(place, size) => {
             out[0] = 0;
@@ -94,5 +94,5 @@ pub extern "C" fn film_described_place(
 pub extern "C" fn film_rate_of_point(bitrate: u32, share: u16) -> u64
     ensures { λ r. ⌜ r ≡ bitrate * share / 100 ⌝ }
 {
-    fragments::rate_of_point(bitrate, share)
+    group_fragments::rate_of_point(bitrate, share)
 }

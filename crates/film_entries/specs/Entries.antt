@@ -3,7 +3,7 @@ use Prim.Native.Nat.{ℕ}
 use mathlib.Core.Bool.{Bool}
 use mathlib.Core.List.{List, [], _∷_}
 use lib.IntN.{ℤ}
-use Rattle.entries.specs.Decoded.{Rap, Sap, Point, Rash, OutputPair, Alst}
+use Rattle.group_entries.specs.Decoded.{Rap, Sap, Point, Rash, OutputPair, Alst}
 use Rattle.film_status.specs.Status.{bit}
 
 abbrev pub rollNumbers : ℤ → List ℤ

@@ -1,23 +1,23 @@
 // The C interface: typed entries, and whether two of them decode alike.
 ghost use mathlib.Core.Path.{_≡_};
-ghost use Rattle.fields.specs.Answer.{within};
-ghost use Rattle.entries.specs.Decoded.{decodeRoll, decodeRap, decodeTele, decodeSap, decodeRash, decodeAlst, rashPoint, alstOffset, alstPair};
-ghost use Rattle.entries.specs.Told.{toldRoll};
+ghost use Rattle.base_fields.specs.Answer.{within};
+ghost use Rattle.group_entries.specs.Decoded.{decodeRoll, decodeRap, decodeTele, decodeSap, decodeRash, decodeAlst, rashPoint, alstOffset, alstPair};
+ghost use Rattle.group_entries.specs.Told.{toldRoll};
 ghost use Rattle.film_status.specs.Status.{Returns, oneNumber};
 ghost use Rattle.film_entries.specs.Entries.{rollNumbers, rapNumbers, teleNumbers, sapNumbers, rashNumbers, pointNumbers, alstNumbers, pairNumbers};
 ghost use Rattle.film_entries.specs.Likens.{Likens};
-use alike::Alike;
-use entries::DecodedAlst;
-use entries::DecodedRap;
-use entries::DecodedRash;
-use entries::DecodedRoll;
-use entries::DecodedSap;
-use entries::DecodedTele;
-use entries::ReadOffset;
-use entries::ReadPiece;
-use entries::ReadPoint;
 use film_status::NONE;
 use film_status::bit_of;
+use group_alike::Alike;
+use group_entries::DecodedAlst;
+use group_entries::DecodedRap;
+use group_entries::DecodedRash;
+use group_entries::DecodedRoll;
+use group_entries::DecodedSap;
+use group_entries::DecodedTele;
+use group_entries::ReadOffset;
+use group_entries::ReadPiece;
+use group_entries::ReadPoint;
 
 // Hands a distance out.
 fn put_roll(read: DecodedRoll, out: &mut [i16; 1]) -> u32
@@ -38,7 +38,7 @@ fn put_roll(read: DecodedRoll, out: &mut [i16; 1]) -> u32
 pub extern "C" fn film_decode_roll(s: &[u8], out: &mut [i16; 1]) -> u32
     ensures { λ r. ⌜ Returns (within (now (s .entry)) (decodeRoll (now (s .entry)))) rollNumbers (now (out .entry)) (now (out .exit)) r ⌝ }
 {
-    put_roll(entries::decode_roll(s), out)
+    put_roll(group_entries::decode_roll(s), out)
 }
 
 // The same layout as a roll.
@@ -46,7 +46,7 @@ pub extern "C" fn film_decode_roll(s: &[u8], out: &mut [i16; 1]) -> u32
 pub extern "C" fn film_decode_prol(s: &[u8], out: &mut [i16; 1]) -> u32
     ensures { λ r. ⌜ Returns (within (now (s .entry)) (decodeRoll (now (s .entry)))) rollNumbers (now (out .entry)) (now (out .exit)) r ⌝ }
 {
-    put_roll(entries::decode_prol(s), out)
+    put_roll(group_entries::decode_prol(s), out)
 }
 
 // out: known (0 or 1), number of leading samples.
@@ -54,7 +54,7 @@ pub extern "C" fn film_decode_prol(s: &[u8], out: &mut [i16; 1]) -> u32
 pub extern "C" fn film_decode_rap(s: &[u8], out: &mut [u64; 2]) -> u32
     ensures { λ r. ⌜ Returns (within (now (s .entry)) (decodeRap (now (s .entry)))) rapNumbers (now (out .entry)) (now (out .exit)) r ⌝ }
 {
-    let read = entries::decode_rap(s);
+    let read = group_entries::decode_rap(s);
     match read {
         DecodedRap::Rap(v) => {
             out[0] = bit_of(v.num_leading_samples_known);
@@ -70,7 +70,7 @@ pub extern "C" fn film_decode_rap(s: &[u8], out: &mut [u64; 2]) -> u32
 pub extern "C" fn film_decode_tele(s: &[u8], out: &mut [u64; 1]) -> u32
     ensures { λ r. ⌜ Returns (within (now (s .entry)) (decodeTele (now (s .entry)))) teleNumbers (now (out .entry)) (now (out .exit)) r ⌝ }
 {
-    let read = entries::decode_tele(s);
+    let read = group_entries::decode_tele(s);
     match read {
         DecodedTele::Tele(v) => {
             out[0] = bit_of(v.level_independently_decodable);
@@ -85,7 +85,7 @@ pub extern "C" fn film_decode_tele(s: &[u8], out: &mut [u64; 1]) -> u32
 pub extern "C" fn film_decode_sap(s: &[u8], out: &mut [u64; 2]) -> u32
     ensures { λ r. ⌜ Returns (within (now (s .entry)) (decodeSap (now (s .entry)))) sapNumbers (now (out .entry)) (now (out .exit)) r ⌝ }
 {
-    let read = entries::decode_sap(s);
+    let read = group_entries::decode_sap(s);
     match read {
         DecodedSap::Sap(v) => {
             out[0] = bit_of(v.dependent);
@@ -101,7 +101,7 @@ pub extern "C" fn film_decode_sap(s: &[u8], out: &mut [u64; 2]) -> u32
 pub extern "C" fn film_decode_rash(s: &[u8], out: &mut [u64; 4]) -> u32
     ensures { λ r. ⌜ Returns (within (now (s .entry)) (decodeRash (now (s .entry)))) rashNumbers (now (out .entry)) (now (out .exit)) r ⌝ }
 {
-    let read = entries::decode_rash(s);
+    let read = group_entries::decode_rash(s);
     match read {
         DecodedRash::Rash(v) => {
             out[0] = v.operation_point_count as u64;
@@ -119,7 +119,7 @@ pub extern "C" fn film_decode_rash(s: &[u8], out: &mut [u64; 4]) -> u32
 pub extern "C" fn film_rash_operation_point(s: &[u8], k: u32, out: &mut [u64; 2]) -> u32
     ensures { λ r. ⌜ Returns (within (now (s .entry)) (rashPoint (now (s .entry)) k)) pointNumbers (now (out .entry)) (now (out .exit)) r ⌝ }
 {
-    let read = entries::rash_operation_point(s, k);
+    let read = group_entries::rash_operation_point(s, k);
     match read {
         ReadPoint::Point(v) => {
             out[0] = v.available_bitrate as u64;
@@ -136,7 +136,7 @@ pub extern "C" fn film_rash_operation_point(s: &[u8], k: u32, out: &mut [u64; 2]
 pub extern "C" fn film_decode_alst(s: &[u8], out: &mut [u64; 3]) -> u32
     ensures { λ r. ⌜ Returns (within (now (s .entry)) (decodeAlst (now (s .entry)))) alstNumbers (now (out .entry)) (now (out .exit)) r ⌝ }
 {
-    let read = entries::decode_alst(s);
+    let read = group_entries::decode_alst(s);
     match read {
         DecodedAlst::Alst(v) => {
             out[0] = v.roll_count as u64;
@@ -153,7 +153,7 @@ pub extern "C" fn film_decode_alst(s: &[u8], out: &mut [u64; 3]) -> u32
 pub extern "C" fn film_alst_sample_offset(s: &[u8], k: u32, out: &mut [u64; 1]) -> u32
     ensures { λ r. ⌜ Returns (within (now (s .entry)) (alstOffset (now (s .entry)) k)) oneNumber (now (out .entry)) (now (out .exit)) r ⌝ }
 {
-    let read = entries::alst_sample_offset(s, k);
+    let read = group_entries::alst_sample_offset(s, k);
     match read {
         ReadOffset::Offset(v) => {
             out[0] = v as u64;
@@ -169,7 +169,7 @@ pub extern "C" fn film_alst_sample_offset(s: &[u8], k: u32, out: &mut [u64; 1]) 
 pub extern "C" fn film_alst_piece(s: &[u8], k: u32, out: &mut [u64; 2]) -> u32
     ensures { λ r. ⌜ Returns (within (now (s .entry)) (alstPair (now (s .entry)) k)) pairNumbers (now (out .entry)) (now (out .exit)) r ⌝ }
 {
-    let read = entries::alst_piece(s, k);
+    let read = group_entries::alst_piece(s, k);
     match read {
         ReadPiece::Piece(v) => {
             out[0] = v.num_output_samples as u64;
@@ -191,7 +191,7 @@ pub extern "C" fn film_decode_alike(
 ) -> u32
     ensures { λ r. ⌜ Likens «grouping_type» (now (a .entry)) (now (b .entry)) (now (out .entry)) (now (out .exit)) r ⌝ }
 {
-    let read = alike::decode_alike(grouping_type, a, b);
+    let read = group_alike::decode_alike(grouping_type, a, b);
     match read {
         Alike::Same => {
             out[0] = 1;

@@ -1,11 +1,11 @@
 -- What a function of the C interface returns and what it writes: 0 and the numbers of a value, 255 for none and done, else the number of
--- the refusal. Only with 0 is anything written.
+-- the refusal. Only with 0 is anything stored.
 use Prim.Native.Nat.{ℕ}
 use mathlib.Core.Path.{_≡_}
 use mathlib.Core.Bool.{Bool, true, false}
 use mathlib.Core.List.{List, [], _∷_}
 use lib.Seq.{sets}
-use Rattle.fields.specs.Answer.{Answer, given, none, refused}
+use Rattle.base_fields.specs.Answer.{Answer, given, none, refused}
 
 abbrev pub statusOf : {A : Type 0} → Answer A → ℕ
 statusOf (given a) = 0
@@ -13,14 +13,14 @@ statusOf none = 255
 statusOf (refused n) = n
 
 -- the numbers of a value stored from place 0 on; every other number stays
-abbrev pub written : {A N : Type 0} → (A → List N) → Answer A → List N → List N
-written numbers (given a) out = sets out 0 (numbers a)
-written numbers none out = out
-written numbers (refused n) out = out
+abbrev pub stored : {A N : Type 0} → (A → List N) → Answer A → List N → List N
+stored numbers (given a) out = sets out 0 (numbers a)
+stored numbers none out = out
+stored numbers (refused n) out = out
 
 pub record Returns {A N : Type 0} (told : Answer A) (numbers : A → List N) (before after : List N) (r : ℕ) : Type 0 where
   pub status : r ≡ statusOf told
-  pub out : after ≡ written numbers told before
+  pub out : after ≡ stored numbers told before
 
 abbrev pub oneNumber : ℕ → List ℕ
 oneNumber n = n ∷ []

@@ -1,19 +1,21 @@
 // The C interface: sample tables, their rows in a lent run of u32 (a count and an index each), and lookups over such a run.
 ghost use mathlib.Core.Path.{_≡_};
-ghost use Rattle.rows.specs.Row.{recordsIn, lookup, total};
-ghost use Rattle.rows.specs.Found.{foundOf, coveredOf, parsedOf};
-ghost use Rattle.sbgp.specs.Sbgp.{parseSbgp};
-ghost use Rattle.csgp.specs.Table.{parseCsgp};
+ghost use Rattle.table_rows.specs.Row.{recordsIn, lookup, total};
+ghost use Rattle.table_rows.specs.Found.{toldIndex, toldCovered, toldTable};
+ghost use Rattle.table_sbgp.specs.Sbgp.{parseSbgp};
+ghost use Rattle.table_csgp.specs.Table.{parseCsgp};
 ghost use Rattle.film_status.specs.Status.{Returns, oneNumber};
 ghost use Rattle.film_tables.specs.Tables.{Fills, headNumbers};
-use rows::Covered;
-use rows::Found;
-use rows::ParsedTable;
-use rows::SampleNumber;
+use base_ids::RowNumber;
+use base_ids::SampleCount;
+use base_ids::SampleNumber;
+use table_rows::Covered;
+use table_rows::Found;
+use table_rows::ParsedTable;
 
 // Hands a table's head out.
 fn put_head(parsed: ParsedTable, out: &mut [u64; 3]) -> u32
-    ensures { λ r. ⌜ Returns (parsedOf parsed) headNumbers (now (out .entry)) (now (out .exit)) r ⌝ }
+    ensures { λ r. ⌜ Returns (toldTable parsed) headNumbers (now (out .entry)) (now (out .exit)) r ⌝ }
 {
     match parsed {
         ParsedTable::Table(t) => {
@@ -28,26 +30,30 @@ fn put_head(parsed: ParsedTable, out: &mut [u64; 3]) -> u32
 
 // out: type, parameter, row count. The rows stand in front of the lent run.
 #[no_mangle]
-pub extern "C" fn film_parse_sbgp(s: &[u8], rows: &mut [u32], out: &mut [u64; 3]) -> u32
+pub extern "C" fn film_parse_sbgp(s: &[u8], rows: &mut [RowNumber], out: &mut [u64; 3]) -> u32
     ensures { λ r. ⌜ Fills (parseSbgp (now (s .entry)) (recordsIn (now (rows .entry)))) (now (rows .entry)) (now (rows .exit)) (now (out .entry)) (now (out .exit)) r ⌝ }
 {
-    put_head(sbgp::parse_sbgp(s, rows), out)
+    put_head(table_sbgp::parse_sbgp(s, rows), out)
 }
 
 // The same for a csgp payload.
 #[no_mangle]
-pub extern "C" fn film_parse_csgp(s: &[u8], rows: &mut [u32], out: &mut [u64; 3]) -> u32
+pub extern "C" fn film_parse_csgp(s: &[u8], rows: &mut [RowNumber], out: &mut [u64; 3]) -> u32
     ensures { λ r. ⌜ Fills (parseCsgp (now (s .entry)) (recordsIn (now (rows .entry)))) (now (rows .entry)) (now (rows .exit)) (now (out .entry)) (now (out .exit)) r ⌝ }
 {
-    put_head(csgp::parse_csgp(s, rows), out)
+    put_head(table_csgp::parse_csgp(s, rows), out)
 }
 
 // out: the index of the row that covers the sample (counted from 0), 0 past the end.
 #[no_mangle]
-pub extern "C" fn film_group_index_for_sample(rows: &[u32], sample: u32, out: &mut [u64; 1]) -> u32
+pub extern "C" fn film_group_index_for_sample(
+    rows: &[RowNumber],
+    sample: SampleCount,
+    out: &mut [u64; 1],
+) -> u32
     ensures { λ r. ⌜ Returns (lookup (now (rows .entry)) sample) oneNumber (now (out .entry)) (now (out .exit)) r ⌝ }
 {
-    let found = rows::group_index_for_sample(rows, SampleNumber(sample));
+    let found = table_rows::group_index_for_sample(rows, SampleNumber(sample));
     match found {
         Found::Index(i) => {
             out[0] = i.0 as u64;
@@ -59,10 +65,10 @@ pub extern "C" fn film_group_index_for_sample(rows: &[u32], sample: u32, out: &m
 
 // out: the samples that the rows cover.
 #[no_mangle]
-pub extern "C" fn film_covered_samples(rows: &[u32], out: &mut [u64; 1]) -> u32
+pub extern "C" fn film_covered_samples(rows: &[RowNumber], out: &mut [u64; 1]) -> u32
     ensures { λ r. ⌜ Returns (total (now (rows .entry))) oneNumber (now (out .entry)) (now (out .exit)) r ⌝ }
 {
-    let covered = rows::covered_samples(rows);
+    let covered = table_rows::covered_samples(rows);
     match covered {
         Covered::Samples(n) => {
             out[0] = n;

@@ -3,7 +3,7 @@ use Rattle.film_atoms.proofs.film_read_payload_bounded.Statement.{state
 use Rattle.film_atoms.proofs.film_read_payload_bounded.Tie as tie
 use Rattle.film_atoms.proofs.film_read_payload_bounded.Reads as reads
 use Rattle.film_atoms.proofs.film_read_payload_bounded.Lts as lts
-use Rattle.atom.proofs.read_payload_bounded.Reads as read-payload-bounded-reads
+use Rattle.atom_tree.proofs.read_payload_bounded.Reads as read-payload-bounded-reads
 use Rattle.film_atoms.proofs.put_payload.Reads as put-payload-reads
 
 read-payload-bounded-requires : tie.Need-read-payload-bounded-requires

@@ -4,7 +4,7 @@ use Rattle.film_descriptions.proofs.film_described_place.Statement.{sta
 use Rattle.film_descriptions.proofs.film_described_place.Tie as tie
 use Rattle.film_descriptions.proofs.film_described_place.Reads as reads
 use Rattle.film_descriptions.proofs.film_described_place.Lts as lts
-use Rattle.fragments.proofs.described_place.Reads as described-place-reads
+use Rattle.group_fragments.proofs.described_place.Reads as described-place-reads
 
 described-place-requires : tie.Need-described-place-requires
 described-place-requires c κs = search needs

@@ -4,7 +4,7 @@ use Rattle.film_descriptions.proofs.film_entry_place.Statement.{stateme
 use Rattle.film_descriptions.proofs.film_entry_place.Tie as tie
 use Rattle.film_descriptions.proofs.film_entry_place.Reads as reads
 use Rattle.film_descriptions.proofs.film_entry_place.Lts as lts
-use Rattle.sgpd.proofs.entry_place.Reads as entry-place-reads
+use Rattle.group_sgpd.proofs.entry_place.Reads as entry-place-reads
 
 entry-place-requires : tie.Need-entry-place-requires
 entry-place-requires c κs = search needs

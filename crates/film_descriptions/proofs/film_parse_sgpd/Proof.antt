@@ -4,7 +4,7 @@ use Rattle.film_descriptions.proofs.film_parse_sgpd.Statement.{statemen
 use Rattle.film_descriptions.proofs.film_parse_sgpd.Tie as tie
 use Rattle.film_descriptions.proofs.film_parse_sgpd.Reads as reads
 use Rattle.film_descriptions.proofs.film_parse_sgpd.Lts as lts
-use Rattle.sgpd.proofs.parse_sgpd.Reads as parse-sgpd-reads
+use Rattle.group_sgpd.proofs.parse_sgpd.Reads as parse-sgpd-reads
 
 parse-sgpd-requires : tie.Need-parse-sgpd-requires
 parse-sgpd-requires c κs = search needs

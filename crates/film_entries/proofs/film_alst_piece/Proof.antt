@@ -4,7 +4,7 @@ use Rattle.film_entries.proofs.film_alst_piece.Statement.{statement}
 use Rattle.film_entries.proofs.film_alst_piece.Tie as tie
 use Rattle.film_entries.proofs.film_alst_piece.Reads as reads
 use Rattle.film_entries.proofs.film_alst_piece.Lts as lts
-use Rattle.entries.proofs.alst_piece.Reads as alst-piece-reads
+use Rattle.group_entries.proofs.alst_piece.Reads as alst-piece-reads
 
 alst-piece-requires : tie.Need-alst-piece-requires
 alst-piece-requires c κs = search needs

@@ -4,7 +4,7 @@ use Rattle.film_entries.proofs.film_alst_sample_offset.Statement.{state
 use Rattle.film_entries.proofs.film_alst_sample_offset.Tie as tie
 use Rattle.film_entries.proofs.film_alst_sample_offset.Reads as reads
 use Rattle.film_entries.proofs.film_alst_sample_offset.Lts as lts
-use Rattle.entries.proofs.alst_sample_offset.Reads as alst-sample-offset-reads
+use Rattle.group_entries.proofs.alst_sample_offset.Reads as alst-sample-offset-reads
 
 alst-sample-offset-requires : tie.Need-alst-sample-offset-requires
 alst-sample-offset-requires c κs = search needs

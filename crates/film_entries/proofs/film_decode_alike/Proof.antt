@@ -4,7 +4,7 @@ use Rattle.film_entries.proofs.film_decode_alike.Statement.{statement}
 use Rattle.film_entries.proofs.film_decode_alike.Tie as tie
 use Rattle.film_entries.proofs.film_decode_alike.Reads as reads
 use Rattle.film_entries.proofs.film_decode_alike.Lts as lts
-use Rattle.alike.proofs.decode_alike.Reads as decode-alike-reads
+use Rattle.group_alike.proofs.decode_alike.Reads as decode-alike-reads
 
 decode-alike-requires : tie.Need-decode-alike-requires
 decode-alike-requires c κs = search needs

@@ -4,7 +4,7 @@ use Rattle.film_entries.proofs.film_decode_alst.Statement.{statement}
 use Rattle.film_entries.proofs.film_decode_alst.Tie as tie
 use Rattle.film_entries.proofs.film_decode_alst.Reads as reads
 use Rattle.film_entries.proofs.film_decode_alst.Lts as lts
-use Rattle.entries.proofs.decode_alst.Reads as decode-alst-reads
+use Rattle.group_entries.proofs.decode_alst.Reads as decode-alst-reads
 
 decode-alst-requires : tie.Need-decode-alst-requires
 decode-alst-requires c κs = search needs

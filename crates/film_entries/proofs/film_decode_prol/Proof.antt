@@ -3,7 +3,7 @@ use Rattle.film_entries.proofs.film_decode_prol.Statement.{statement}
 use Rattle.film_entries.proofs.film_decode_prol.Tie as tie
 use Rattle.film_entries.proofs.film_decode_prol.Reads as reads
 use Rattle.film_entries.proofs.film_decode_prol.Lts as lts
-use Rattle.entries.proofs.decode_prol.Reads as decode-prol-reads
+use Rattle.group_entries.proofs.decode_prol.Reads as decode-prol-reads
 use Rattle.film_entries.proofs.put_roll.Reads as put-roll-reads
 
 decode-prol-requires : tie.Need-decode-prol-requires

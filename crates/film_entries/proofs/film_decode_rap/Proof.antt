@@ -4,7 +4,7 @@ use Rattle.film_entries.proofs.film_decode_rap.Statement.{statement}
 use Rattle.film_entries.proofs.film_decode_rap.Tie as tie
 use Rattle.film_entries.proofs.film_decode_rap.Reads as reads
 use Rattle.film_entries.proofs.film_decode_rap.Lts as lts
-use Rattle.entries.proofs.decode_rap.Reads as decode-rap-reads
+use Rattle.group_entries.proofs.decode_rap.Reads as decode-rap-reads
 use Rattle.film_status.proofs.bit_of.Reads as bit-of-reads
 
 decode-rap-requires : tie.Need-decode-rap-requires

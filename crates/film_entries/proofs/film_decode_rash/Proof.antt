@@ -4,7 +4,7 @@ use Rattle.film_entries.proofs.film_decode_rash.Statement.{statement}
 use Rattle.film_entries.proofs.film_decode_rash.Tie as tie
 use Rattle.film_entries.proofs.film_decode_rash.Reads as reads
 use Rattle.film_entries.proofs.film_decode_rash.Lts as lts
-use Rattle.entries.proofs.decode_rash.Reads as decode-rash-reads
+use Rattle.group_entries.proofs.decode_rash.Reads as decode-rash-reads
 
 decode-rash-requires : tie.Need-decode-rash-requires
 decode-rash-requires c κs = search needs

@@ -3,7 +3,7 @@ use Rattle.film_entries.proofs.film_decode_roll.Statement.{statement}
 use Rattle.film_entries.proofs.film_decode_roll.Tie as tie
 use Rattle.film_entries.proofs.film_decode_roll.Reads as reads
 use Rattle.film_entries.proofs.film_decode_roll.Lts as lts
-use Rattle.entries.proofs.decode_roll.Reads as decode-roll-reads
+use Rattle.group_entries.proofs.decode_roll.Reads as decode-roll-reads
 use Rattle.film_entries.proofs.put_roll.Reads as put-roll-reads
 
 decode-roll-requires : tie.Need-decode-roll-requires

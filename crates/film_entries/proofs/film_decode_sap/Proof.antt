@@ -4,7 +4,7 @@ use Rattle.film_entries.proofs.film_decode_sap.Statement.{statement}
 use Rattle.film_entries.proofs.film_decode_sap.Tie as tie
 use Rattle.film_entries.proofs.film_decode_sap.Reads as reads
 use Rattle.film_entries.proofs.film_decode_sap.Lts as lts
-use Rattle.entries.proofs.decode_sap.Reads as decode-sap-reads
+use Rattle.group_entries.proofs.decode_sap.Reads as decode-sap-reads
 use Rattle.film_status.proofs.bit_of.Reads as bit-of-reads
 
 decode-sap-requires : tie.Need-decode-sap-requires

@@ -4,7 +4,7 @@ use Rattle.film_entries.proofs.film_decode_tele.Statement.{statement}
 use Rattle.film_entries.proofs.film_decode_tele.Tie as tie
 use Rattle.film_entries.proofs.film_decode_tele.Reads as reads
 use Rattle.film_entries.proofs.film_decode_tele.Lts as lts
-use Rattle.entries.proofs.decode_tele.Reads as decode-tele-reads
+use Rattle.group_entries.proofs.decode_tele.Reads as decode-tele-reads
 use Rattle.film_status.proofs.bit_of.Reads as bit-of-reads
 
 decode-tele-requires : tie.Need-decode-tele-requires

@@ -4,7 +4,7 @@ use Rattle.film_entries.proofs.film_rash_operation_point.Statement.{sta
 use Rattle.film_entries.proofs.film_rash_operation_point.Tie as tie
 use Rattle.film_entries.proofs.film_rash_operation_point.Reads as reads
 use Rattle.film_entries.proofs.film_rash_operation_point.Lts as lts
-use Rattle.entries.proofs.rash_operation_point.Reads as rash-operation-point-reads
+use Rattle.group_entries.proofs.rash_operation_point.Reads as rash-operation-point-reads
 
 rash-operation-point-requires : tie.Need-rash-operation-point-requires
 rash-operation-point-requires c κs = search needs

@@ -1,0 +1,93 @@
+-- The answers of parts 1 and 2, case by case, from what the code's tests tell.
+use mathlib.Core.Path.{_≡_, refl, ap, sym, _∙_}
+use mathlib.Core.List.{List}
+use mathlib.Core.Option.{none, some}
+use Prim.Native.Nat.{ℕ, _+_, _-_, _<_, _≤_}
+use native.Mathlib.Omega.{arith}
+use lib.ListN.{length}
+use borrow.Author.Tests.{lt-ltb, le-ltb, le-leb, lt-leb, eq-eqb, ne-eqb}
+use Rattle.base_fields.specs.Answer as answer
+use Rattle.base_fields.specs.Answer.{Answer, given, refused, inputLimit, andThen}
+use Rattle.base_fields.specs.Number.{beAt}
+use Rattle.atom_tree.specs.Atom.{Known, Header, Child, present, lastPlace, header, extended, bySize, headerAt, childAt, endOf, inside}
+use Rattle.base_fields.specs.Span.{Span}
+
+module _ (s : List ℕ) (p : ℕ) where
+  -- the extended size is `size`, and the type is `type`
+  pub extended-cut : length s < p + 16 → refused 2 ≡ extended s p
+  extended-cut h = simp (lt-ltb (length s) (p + 16) h)
+
+  module _ (there : p + 16 ≤ length s) (size : ℕ) (is : size ≡ beAt 8 s (p + 8)) where
+    pub extended-small : size < 16 → refused 4 ≡ extended s p
+    extended-small h = rw (← is) (simp (le-ltb (length s) (p + 16) there, lt-ltb size 16 h))
+
+    pub extended-far : 16 ≤ size → lastPlace < p + size → refused 5 ≡ extended s p
+    extended-far h f = rw (← is) (simp (le-ltb (length s) (p + 16) there, le-ltb size 16 h, lt-ltb lastPlace (p + size) f))
+
+    pub extended-given : 16 ≤ size → p + size ≤ lastPlace → (type : ℕ) → type ≡ beAt 4 s (p + 4) → given (record { type = type; size = some size; headerLength = 16; body = p + 16 }) ≡ extended s p
+    extended-given h f type t =
+        rw (← is, t) (simp (le-ltb (length s) (p + 16) there, le-ltb size 16 h, le-ltb lastPlace (p + size) f))
+
+  module _ (short : length s ≤ inputLimit) where
+    pub header-none : length s ≤ p → answer.none ≡ headerAt s p
+    unfolding headerAt
+    header-none h = simp (le-ltb inputLimit (length s) short, le-leb (length s) p h)
+
+    module _ (there : p < length s) where
+      pub header-cut : length s < p + 8 → refused 1 ≡ headerAt s p
+      unfolding headerAt
+      header-cut h = simp (le-ltb inputLimit (length s) short, lt-leb (length s) p there, lt-ltb (length s) (p + 8) h)
+
+      pub header-whole : p + 8 ≤ length s → bySize s p (beAt 4 s p) ≡ headerAt s p
+      unfolding headerAt
+      header-whole h = simp (le-ltb inputLimit (length s) short, lt-leb (length s) p there, le-ltb (length s) (p + 8) h)
+
+  pub header-long : inputLimit < length s → refused 55 ≡ headerAt s p
+  unfolding headerAt
+  header-long h = simp (lt-ltb inputLimit (length s) h)
+
+  pub by-size-open : (size : ℕ) → size ≡ 0 → given (header s p none 8) ≡ bySize s p size
+  by-size-open size e = simp (e)
+
+  pub by-size-extended : (size : ℕ) → size ≡ 1 → extended s p ≡ bySize s p size
+  by-size-extended size e = rw e refl
+
+  module _ (size : ℕ) (not0 : size ≡ 0 → ⊥) (not1 : size ≡ 1 → ⊥) where
+    pub by-size-small : size < 8 → refused 3 ≡ bySize s p size
+    by-size-small h = simp (ne-eqb size 0 not0, ne-eqb size 1 not1, lt-ltb size 8 h)
+
+    pub by-size-given : 8 ≤ size → p + size ≤ lastPlace → given (header s p (some size) 8) ≡ bySize s p size
+    by-size-given h f = simp (ne-eqb size 0 not0, ne-eqb size 1 not1, le-ltb size 8 h, le-ltb lastPlace (p + size) f)
+
+-- a child by its header's size and its parent's end
+module _ (p : ℕ) (h : Header) where
+  pub child-sized : (size end : Known) (n : ℕ) → size ≡ some n → inside end h (p + n) ≡ andThen (endOf p size end) (inside end h)
+  child-sized size end n e = rw e refl
+
+  pub child-open : (size end : Known) (limit : ℕ) → size ≡ none → end ≡ some limit → given (record { head = h; next = limit }) ≡ andThen (endOf p size end) (inside end h)
+  child-open size end limit e f = rw (e, f) (simp (le-ltb limit limit (omega arith)))
+
+-- the child at a place that is not past the parent's end
+abbrev pub walked : List ℕ → ℕ → Known → Answer Child
+walked s p end = andThen (headerAt s p) (λ h. andThen (endOf p (h .size) end) (inside end h))
+
+module _ (s : List ℕ) (p : ℕ) (end : Known) where
+  pub child-long : inputLimit < length s → refused 55 ≡ childAt s p end
+  unfolding childAt
+  child-long h = simp (lt-ltb inputLimit (length s) h)
+
+  module _ (short : length s ≤ inputLimit) where
+    pub child-unknown : end ≡ none → walked s p end ≡ childAt s p end
+    unfolding childAt
+    child-unknown e = rw e (simp (le-ltb inputLimit (length s) short))
+
+    pub child-done : (limit : ℕ) → end ≡ some limit → limit ≤ p → answer.none ≡ childAt s p end
+    unfolding childAt
+    child-done limit e h = rw e (simp (le-ltb inputLimit (length s) short, le-leb limit p h))
+
+    pub child-before : (limit : ℕ) → end ≡ some limit → p < limit → walked s p (some limit) ≡ childAt s p end
+    unfolding childAt
+    child-before limit e h = rw e (simp (le-ltb inputLimit (length s) short, lt-leb limit p h))
+
+pub under-envelope : (s : List ℕ) (envelope : ℕ) (b : Span) → b .size ≤ envelope → present s none b ≡ present s (some envelope) b
+under-envelope s envelope b h = simp (le-ltb envelope (b .size) h)

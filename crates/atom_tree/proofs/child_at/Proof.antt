@@ -1,0 +1,44 @@
+use mathlib.Core.Path.{_≡_, refl, ap, sym, _∙_}
+use Rattle.atom_tree.specs.Told.{toldHeader}
+use Rattle.atom_tree.proofs.Enums.{is-nothing}
+use Rattle.atom_tree.proofs.Headers.{header-sound}
+use borrow.Author.Needs.{needs}
+use Rattle.atom_tree.proofs.child_at.Statement.{statement}
+use Rattle.atom_tree.proofs.child_at.Tie as tie
+use Rattle.atom_tree.proofs.child_at.Reads as reads
+use Rattle.atom_tree.proofs.child_at.Lts as lts
+use Rattle.atom_tree.proofs.child_of.Reads as child-of-reads
+use Rattle.atom_tree.proofs.read_atom_header.Reads as read-atom-header-reads
+
+read-atom-header-requires : tie.Need-read-atom-header-requires
+read-atom-header-requires c κs = search needs
+
+enum-known-read : tie.Need-enum-known-read
+enum-known-read c = search needs
+
+enum-known-read-2 : tie.Need-enum-known-read-2
+enum-known-read-2 c = search needs
+
+returns : tie.Need-returns
+returns c = rw (← c .before .before .before .before .read-atom-header .ensures) (rw (c .before .read2 .given .1) refl)
+
+returns-2 : tie.Need-returns-2
+returns-2 c = rw (← c .before .before .read-atom-header .ensures) (rw (is-nothing (c .before .before .read-atom-header .result) (c .before .match .keys2) (c .match2 .keys2)) refl)
+
+child-of-requires : tie.Need-child-of-requires
+child-of-requires c κs = header-sound _ _ (sym (c .before .before .before .read-atom-header .ensures) ∙ ap toldHeader (c .before .read .given .1))
+
+returns-3 : tie.Need-returns-3
+returns-3 c = rw (← c .before .before .before .before .read-atom-header .ensures) (rw (c .before .before .read .given .1) (c .child-of .ensures))
+
+pub child-at-spec : {M : Type 1} → statement M
+child-at-spec =
+    tie.close
+    (tie.spec
+    read-atom-header-requires
+    enum-known-read
+    enum-known-read-2
+    returns
+    returns-2
+    child-of-requires
+    returns-3)

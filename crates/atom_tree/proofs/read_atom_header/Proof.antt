@@ -1,0 +1,31 @@
+use mathlib.Core.Path.{_∙_}
+use native.Mathlib.Omega.{arith}
+use Rattle.atom_tree.proofs.Cases.{header-long, header-none, header-cut, header-whole}
+use borrow.Author.Needs.{needs}
+use Rattle.atom_tree.proofs.read_atom_header.Statement.{statement}
+use Rattle.atom_tree.proofs.read_atom_header.Tie as tie
+use Rattle.atom_tree.proofs.read_atom_header.Reads as reads
+use Rattle.atom_tree.proofs.read_atom_header.Lts as lts
+use Rattle.atom_tree.proofs.header_by_size.Reads as header-by-size-reads
+
+returns : tie.Need-returns
+returns c = header-long _ _ (c .if1 .taken)
+
+returns-2 : tie.Need-returns-2
+returns-2 c = header-none _ _ (c .before .if1 .left) (c .if2 .taken)
+
+add-if3 : tie.Need-add-if3
+add-if3 c = search needs
+
+returns-3 : tie.Need-returns-3
+returns-3 c = header-cut _ _ (c .before .before .if1 .left) (c .before .if2 .left) (c .if3 .taken)
+
+header-by-size-requires : tie.Need-header-by-size-requires
+header-by-size-requires c κs = search needs
+
+returns-4 : tie.Need-returns-4
+returns-4 c = c .header-by-size .ensures ∙ header-whole _ _ (c .before .before .before .if1 .left) (c .before .before .if2 .left) (c .before .if3 .left)
+
+pub read-atom-header-spec : {M : Type 1} → statement M
+read-atom-header-spec =
+    tie.close (tie.spec returns returns-2 add-if3 returns-3 header-by-size-requires returns-4)

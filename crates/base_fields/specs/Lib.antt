@@ -1,0 +1,4 @@
+pub mod Answer
+pub mod Fourcc
+pub mod Number
+pub mod Span

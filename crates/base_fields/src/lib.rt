@@ -1,0 +1,68 @@
+// Numbers at a place of a slice: big-endian at a byte place, and fields of a bit stream at a bit place.
+pub mod fourcc;
+
+ghost use mathlib.Core.Path.{_≡_};
+ghost use Prim.Native.Nat.{_+_, _*_, _≤_, _<_, _^_};
+ghost use lib.ListN.{length};
+ghost use Rattle.base_fields.specs.Number.{beAt, bitsAt};
+
+// The longest input that is taken, in bytes.
+pub const INPUT_LIMIT: usize = 67108864;
+
+pub fn read_u8(s: &[u8], at: usize) -> u8
+    requires { ⌜ at + 1 ≤ length (now s) ⌝ }
+    ensures { λ r. ⌜ (r ≡ beAt 1 (now (s .entry)) at) × (r < 256) ⌝ }
+{
+    s[at]
+}
+
+pub fn read_u16(s: &[u8], at: usize) -> u16
+    requires { ⌜ at + 2 ≤ length (now s) ⌝ }
+    ensures { λ r. ⌜ (r ≡ beAt 2 (now (s .entry)) at) × (r < 65536) ⌝ }
+{
+    (read_u8(s, at) as u16) * 256 + (read_u8(s, at + 1) as u16)
+}
+
+pub fn read_u32(s: &[u8], at: usize) -> u32
+    requires { ⌜ at + 4 ≤ length (now s) ⌝ }
+    ensures { λ r. ⌜ (r ≡ beAt 4 (now (s .entry)) at) × (r < 4294967296) ⌝ }
+{
+    (read_u16(s, at) as u32) * 65536 + (read_u16(s, at + 2) as u32)
+}
+
+pub fn read_u64(s: &[u8], at: usize) -> u64
+    requires { ⌜ at + 8 ≤ length (now s) ⌝ }
+    ensures { λ r. ⌜ (r ≡ beAt 8 (now (s .entry)) at) × (r < 18446744073709551616) ⌝ }
+{
+    (read_u32(s, at) as u64) * 4294967296 + (read_u32(s, at + 4) as u64)
+}
+
+// The byte at a place, 0 past the end.
+fn byte_or_zero(s: &[u8], at: usize) -> u64
+    ensures { λ r. ⌜ (r ≡ beAt 1 (now (s .entry)) at) × (r < 256) ⌝ }
+{
+    if at < s.len() { s[at] as u64 } else { 0 }
+}
+
+// The five bytes from a place as one number: a field of at most 32 bits that starts in the first lies within them.
+fn window(s: &[u8], at: usize) -> u64
+    requires { ⌜ at ≤ length (now s) ⌝ }
+    ensures { λ r. ⌜ (r ≡ beAt 5 (now (s .entry)) at) × (r < 1099511627776) ⌝ }
+{
+    if at + 5 <= s.len() {
+        return (read_u32(s, at) as u64) * 256 + (read_u8(s, at + 4) as u64);
+    }
+    let high = byte_or_zero(s, at) * 16777216 + byte_or_zero(s, at + 1) * 65536;
+    let low = byte_or_zero(s, at + 2) * 256 + byte_or_zero(s, at + 3);
+    (high + low) * 256 + byte_or_zero(s, at + 4)
+}
+
+// The number in `width` bits from a bit place, high bit first.
+pub fn read_bits(s: &[u8], at: usize, width: u32) -> u32
+    requires { ⌜ (width ≤ 32) × (at + width ≤ 8 * length (now s)) ⌝ }
+    ensures { λ r. ⌜ (r ≡ bitsAt width (now (s .entry)) at) × (r < 2 ^ width) ⌝ }
+{
+    let skipped = (at % 8) as u32;
+    let shifted = window(s, at / 8) >> (40 - skipped - width);
+    (shifted % (1u64 << width)) as u32
+}

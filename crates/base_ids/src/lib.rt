@@ -1,0 +1,19 @@
+// What samples and descriptions are counted in (document 01, part 5: neither number may stand in for the other).
+
+// How many samples a row or a pattern covers. The width of every such count and of every sample number is this one.
+pub type SampleCount = u32;
+
+// The numbers of a run of rows: a sample count and a description index for each row.
+pub type RowNumber = SampleCount;
+
+// The largest count of a row.
+pub const COUNT_LIMIT: SampleCount = 4294967295;
+
+// The most records that a call reads.
+pub const RECORD_LIMIT: usize = 8388608;
+
+// A sample's number, counted from 0.
+pub struct SampleNumber(pub SampleCount);
+
+// The number of a group description, counted from 1; 0 is none.
+pub struct DescriptionIndex(pub u32);

@@ -1,6 +1,0 @@
-pub mod Given
-pub mod Widths
-pub mod Patterns
-pub mod Check
-pub mod Stretches
-pub mod Walk

@@ -1,0 +1,54 @@
+-- Two entries agree over a field's bytes exactly where the field's numbers are equal: laws over the place and the width.
+use mathlib.Core.Path.{_≡_, refl}
+use Prim.Native.Nat.{ℕ, zero, suc, _+_, _<_, _≤_}
+use native.Mathlib.Decide.{decLt}
+use native.Mathlib.Omega.{arith}
+use mathlib.Core.List.{List}
+use lib.ListN.{getD}
+use Rattle.base_fields.specs.Number.{beAt}
+use Rattle.base_fields.proofs.Bits.{Bytes}
+use Rattle.group_entries.specs.Decoded.{upTo}
+
+-- the w bytes from place p agree
+abbrev pub Over : List ℕ → List ℕ → ℕ → ℕ → Type 0
+Over a b p w = (i : ℕ) → p ≤ i → i < p + w → getD a i 0 ≡ getD b i 0
+
+pub over-of-be : (w : ℕ) (a b : List ℕ) (p : ℕ) → Bytes a → Bytes b → beAt w a p ≡ beAt w b p → Over a b p w
+unfolding beAt
+over-of-be zero a b p ba bb e i h l = absurd (omega arith)
+over-of-be (suc w) a b p ba bb e i h l =
+    let high : beAt w a p ≡ beAt w b p = omega (arith, ba (p + w), bb (p + w)) in
+    let low : getD a (p + w) 0 ≡ getD b (p + w) 0 = omega (arith, ba (p + w), bb (p + w)) in
+    elim (decLt i (p + w)) [
+      | yes m ↦ over-of-be w a b p ba bb high i h m
+      | no m ↦ let q : i ≡ p + w = omega arith in rw q low
+    ]
+
+pub be-of-over : (w : ℕ) (a b : List ℕ) (p : ℕ) → Over a b p w → beAt w a p ≡ beAt w b p
+unfolding beAt
+be-of-over zero a b p o = refl
+be-of-over (suc w) a b p o =
+    let high = be-of-over w a b p (λ i h l. o i h (omega arith)) in
+    let low = o (p + w) (omega arith) (omega arith) in
+    rw (high, low) refl
+
+-- f and g agree at k, .., k + n - 1 exactly where their lists are equal
+module _ {A : Type 0} (f g : ℕ → A) where
+  pub each-of-upTo : (k n : ℕ) → upTo f k n ≡ upTo g k n → (j : ℕ) → k ≤ j → j < k + n → f j ≡ g j
+  unfolding upTo
+  each-of-upTo k zero e j h l = absurd (omega arith)
+  each-of-upTo k (suc n) e j h l =
+      let first : f k ≡ g k = cc in
+      let rest : upTo f (suc k) n ≡ upTo g (suc k) n = cc in
+      elim (decLt k j) [
+        | yes m ↦ each-of-upTo (suc k) n rest j (omega arith) (omega arith)
+        | no m ↦ let q : j ≡ k = omega arith in rw q first
+      ]
+
+  pub upTo-of-each : (k n : ℕ) → ((j : ℕ) → k ≤ j → j < k + n → f j ≡ g j) → upTo f k n ≡ upTo g k n
+  unfolding upTo
+  upTo-of-each k zero o = refl
+  upTo-of-each k (suc n) o =
+      let first = o k (omega arith) (omega arith) in
+      let rest = upTo-of-each (suc k) n (λ j h l. o j (omega arith) (omega arith)) in
+      cc

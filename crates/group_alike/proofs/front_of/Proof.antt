@@ -1,0 +1,222 @@
+use mathlib.Core.Path.{refl, ap, sym, _∙_}
+use Rattle.group_entries.specs.Decoded.{rollOf, rapOf, teleOf, sapOf, rashOf, alstOf, decodeRoll, decodeRap, decodeTele, decodeSap, decodeRash, decodeAlst, pointAt, offsetAt, pairAt, upTo}
+use Rattle.group_entries.specs.Told.{toldRoll, toldRap, toldTele, toldSap, toldRash, toldAlst}
+use Rattle.group_entries.proofs.Extent.{rash-extent}
+use Rattle.group_alike.specs.declared.EntryLayout.the-variants.{Roll, Rap, Tele, Sap, Rash, Alst}
+use Rattle.group_alike.proofs.Values.{front-told}
+use borrow.Author.Needs.{needs}
+use Rattle.group_alike.proofs.front_of.Statement.{statement}
+use Rattle.group_alike.proofs.front_of.Tie as tie
+use Rattle.group_alike.proofs.front_of.Reads as reads
+use Rattle.group_alike.proofs.front_of.Lts as lts
+use Rattle.group_entries.proofs.decode_alst.Reads as decode-alst-reads
+use Rattle.group_entries.proofs.decode_rap.Reads as decode-rap-reads
+use Rattle.group_entries.proofs.decode_roll.Reads as decode-roll-reads
+use Rattle.group_entries.proofs.decode_sap.Reads as decode-sap-reads
+use Rattle.group_entries.proofs.decode_tele.Reads as decode-tele-reads
+use Rattle.group_entries.proofs.decode_rash.Reads as decode-rash-reads
+use Rattle.group_entries.proofs.rash_points_end.Reads as rash-points-end-reads
+
+enum-told : tie.Need-enum-told
+enum-told c = search needs
+
+decode-roll-requires : tie.Need-decode-roll-requires
+decode-roll-requires c κs = search needs
+
+enum-told-2 : tie.Need-enum-told-2
+enum-told-2 c = search needs
+
+enum-known-n : tie.Need-enum-known-n
+enum-known-n c = search needs
+
+enum-told-3 : tie.Need-enum-told-3
+enum-told-3 c = search needs
+
+decode-rap-requires : tie.Need-decode-rap-requires
+decode-rap-requires c κs = search needs
+
+enum-told-4 : tie.Need-enum-told-4
+enum-told-4 c = search needs
+
+enum-known-n-2 : tie.Need-enum-known-n-2
+enum-known-n-2 c = search needs
+
+enum-told-5 : tie.Need-enum-told-5
+enum-told-5 c = search needs
+
+decode-tele-requires : tie.Need-decode-tele-requires
+decode-tele-requires c κs = search needs
+
+enum-told-6 : tie.Need-enum-told-6
+enum-told-6 c = search needs
+
+enum-known-n-3 : tie.Need-enum-known-n-3
+enum-known-n-3 c = search needs
+
+enum-told-7 : tie.Need-enum-told-7
+enum-told-7 c = search needs
+
+decode-sap-requires : tie.Need-decode-sap-requires
+decode-sap-requires c κs = search needs
+
+enum-told-8 : tie.Need-enum-told-8
+enum-told-8 c = search needs
+
+enum-known-n-4 : tie.Need-enum-known-n-4
+enum-known-n-4 c = search needs
+
+enum-told-9 : tie.Need-enum-told-9
+enum-told-9 c = search needs
+
+decode-rash-requires : tie.Need-decode-rash-requires
+decode-rash-requires c κs = search needs
+
+enum-known-v : tie.Need-enum-known-v
+enum-known-v c = search needs
+
+rash-points-end-requires : tie.Need-rash-points-end-requires
+rash-points-end-requires c κs = search needs
+
+add-t22 : tie.Need-add-t22
+add-t22 c = search needs
+
+enum-known-n-5 : tie.Need-enum-known-n-5
+enum-known-n-5 c = search needs
+
+enum-told-10 : tie.Need-enum-told-10
+enum-told-10 c = search needs
+
+decode-alst-requires : tie.Need-decode-alst-requires
+decode-alst-requires c κs = search needs
+
+enum-told-11 : tie.Need-enum-told-11
+enum-told-11 c = search needs
+
+enum-known-n-6 : tie.Need-enum-known-n-6
+enum-known-n-6 c = search needs
+
+enum-told-12 : tie.Need-enum-told-12
+enum-told-12 c = search needs
+
+returns : tie.Need-returns
+returns c =
+    let b = c .before .before in
+    let s = b .before .before .before .before .args .s .now in
+    front-told toldRoll Roll s (decodeRoll s) rollOf refl (b .before .enum-told .given .1) (b .before .before .before .before .pre) (b .decode-roll .ensures) (c .enum-told2 .given .1)
+
+returns-2 : tie.Need-returns-2
+returns-2 c =
+    let b = c .before .before .before in
+    let s = b .before .before .before .before .args .s .now in
+    front-told toldRoll Roll s (decodeRoll s) rollOf refl (b .before .enum-told .given .1) (b .before .before .before .before .pre) (b .decode-roll .ensures) (c .before .n .given .1)
+
+returns-3 : tie.Need-returns-3
+returns-3 c =
+    let b = c .before .before in
+    let s = b .before .before .before .before .args .s .now in
+    front-told toldRap Rap s (decodeRap s) rapOf refl (b .before .enum-told3 .given .1) (b .before .before .before .before .pre) (b .decode-rap .ensures) (c .enum-told4 .given .1)
+
+returns-4 : tie.Need-returns-4
+returns-4 c =
+    let b = c .before .before .before in
+    let s = b .before .before .before .before .args .s .now in
+    front-told toldRap Rap s (decodeRap s) rapOf refl (b .before .enum-told3 .given .1) (b .before .before .before .before .pre) (b .decode-rap .ensures) (c .before .n2 .given .1)
+
+returns-5 : tie.Need-returns-5
+returns-5 c =
+    let b = c .before .before in
+    let s = b .before .before .before .before .args .s .now in
+    front-told toldTele Tele s (decodeTele s) teleOf refl (b .before .enum-told5 .given .1) (b .before .before .before .before .pre) (b .decode-tele .ensures) (c .enum-told6 .given .1)
+
+returns-6 : tie.Need-returns-6
+returns-6 c =
+    let b = c .before .before .before in
+    let s = b .before .before .before .before .args .s .now in
+    front-told toldTele Tele s (decodeTele s) teleOf refl (b .before .enum-told5 .given .1) (b .before .before .before .before .pre) (b .decode-tele .ensures) (c .before .n3 .given .1)
+
+returns-7 : tie.Need-returns-7
+returns-7 c =
+    let b = c .before .before in
+    let s = b .before .before .before .before .args .s .now in
+    front-told toldSap Sap s (decodeSap s) sapOf refl (b .before .enum-told7 .given .1) (b .before .before .before .before .pre) (b .decode-sap .ensures) (c .enum-told8 .given .1)
+
+returns-8 : tie.Need-returns-8
+returns-8 c =
+    let b = c .before .before .before in
+    let s = b .before .before .before .before .args .s .now in
+    front-told toldSap Sap s (decodeSap s) sapOf refl (b .before .enum-told7 .given .1) (b .before .before .before .before .pre) (b .decode-sap .ensures) (c .before .n4 .given .1)
+
+returns-9 : tie.Need-returns-9
+returns-9 c =
+    let b = c .before .before .before .before in
+    let s = b .before .before .before .before .args .s .now in
+    let e = c .before .before .v .given .1 in
+    let x = rash-extent s (ap toldRash (sym e) ∙ b .decode-rash .ensures) in
+    rw (c .rash-points-end .ensures .0, x .points)
+    (front-told toldRash Rash s (decodeRash s) (λ r. rashOf r (upTo (pointAt s) 0 (r .points))) refl (b .before .enum-told9 .given .1) (b .before .before .before .before .pre) (b .decode-rash .ensures) e)
+
+returns-10 : tie.Need-returns-10
+returns-10 c =
+    let b = c .before .before .before in
+    let s = b .before .before .before .before .args .s .now in
+    front-told toldRash Rash s (decodeRash s) (λ r. rashOf r (upTo (pointAt s) 0 (r .points))) refl (b .before .enum-told9 .given .1) (b .before .before .before .before .pre) (b .decode-rash .ensures) (c .before .n5 .given .1)
+
+returns-11 : tie.Need-returns-11
+returns-11 c =
+    let b = c .before .before in
+    let s = b .before .before .before .before .args .s .now in
+    front-told toldAlst Alst s (decodeAlst s) (λ a. alstOf a (upTo (offsetAt s) 0 (a .rollCount)) (upTo (pairAt s) 0 (a .pairs))) refl (b .before .enum-told10 .given .1) (b .before .before .before .before .pre) (b .decode-alst .ensures) (c .enum-told11 .given .1)
+
+returns-12 : tie.Need-returns-12
+returns-12 c =
+    let b = c .before .before .before in
+    let s = b .before .before .before .before .args .s .now in
+    front-told toldAlst Alst s (decodeAlst s) (λ a. alstOf a (upTo (offsetAt s) 0 (a .rollCount)) (upTo (pairAt s) 0 (a .pairs))) refl (b .before .enum-told10 .given .1) (b .before .before .before .before .pre) (b .decode-alst .ensures) (c .before .n6 .given .1)
+
+returns-13 : tie.Need-returns-13
+returns-13 c = rw (c .enum-told12 .given .1) refl
+
+pub front-of-spec : {M : Type 1} → statement M
+front-of-spec =
+    tie.close
+    (tie.spec
+    enum-told
+    decode-roll-requires
+    enum-told-2
+    enum-known-n
+    enum-told-3
+    decode-rap-requires
+    enum-told-4
+    enum-known-n-2
+    enum-told-5
+    decode-tele-requires
+    enum-told-6
+    enum-known-n-3
+    enum-told-7
+    decode-sap-requires
+    enum-told-8
+    enum-known-n-4
+    enum-told-9
+    decode-rash-requires
+    enum-known-v
+    rash-points-end-requires
+    add-t22
+    enum-known-n-5
+    enum-told-10
+    decode-alst-requires
+    enum-told-11
+    enum-known-n-6
+    enum-told-12
+    returns
+    returns-2
+    returns-3
+    returns-4
+    returns-5
+    returns-6
+    returns-7
+    returns-8
+    returns-9
+    returns-10
+    returns-11
+    returns-12
+    returns-13)

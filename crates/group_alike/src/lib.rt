@@ -1,0 +1,145 @@
+// Whether two entries of one grouping type decode to the same value (document 01, part 8: like meanings).
+use base_fields::INPUT_LIMIT;
+use base_fields::fourcc;
+use group_entries::DecodedAlst;
+use group_entries::DecodedRap;
+use group_entries::DecodedRash;
+use group_entries::DecodedRoll;
+use group_entries::DecodedSap;
+use group_entries::DecodedTele;
+ghost use mathlib.Core.Path.{_≡_};
+ghost use Prim.Native.Nat.{_≤_};
+ghost use lib.ListN.{length};
+ghost use Rattle.base_fields.specs.Answer.{given, andThen, inputLimit};
+ghost use Rattle.group_alike.specs.Front.{layoutOf, significantOf, decodeAs, frontOf, toldFront, GivesSameFront};
+ghost use Rattle.group_alike.specs.Alike.{GivesAlike};
+
+pub enum Alike {
+    Same,
+    Different,
+    Refused(u32),
+}
+
+// How an entry's bytes are laid out; Raw is any type that part 7 does not name.
+enum EntryLayout {
+    Roll,
+    Rap,
+    Tele,
+    Sap,
+    Rash,
+    Alst,
+    Raw,
+}
+
+// How many bytes at the front of an entry decide its value, or the decoder's refusal.
+enum Front {
+    Bytes(usize),
+    Refused(u32),
+}
+
+fn layout_of(grouping_type: u32) -> EntryLayout
+    ensures { λ r. ⌜ r ≡ layoutOf «grouping_type» ⌝ }
+{
+    match grouping_type {
+        fourcc::ROLL | fourcc::PROL => EntryLayout::Roll,
+        fourcc::RAP => EntryLayout::Rap,
+        fourcc::TELE => EntryLayout::Tele,
+        fourcc::SAP => EntryLayout::Sap,
+        fourcc::RASH => EntryLayout::Rash,
+        fourcc::ALST => EntryLayout::Alst,
+        _ => EntryLayout::Raw,
+    }
+}
+
+// The bits of a byte that a layout reads, packed.
+fn significant(layout: EntryLayout, byte: u8) -> u8
+    ensures { λ r. ⌜ r ≡ significantOf layout byte ⌝ }
+{
+    match layout {
+        EntryLayout::Tele => byte / 128,
+        EntryLayout::Sap => byte / 128 * 16 + byte % 16,
+        EntryLayout::Roll => byte,
+        EntryLayout::Rap => byte,
+        EntryLayout::Rash => byte,
+        EntryLayout::Alst => byte,
+        EntryLayout::Raw => byte,
+    }
+}
+
+fn front_of(layout: EntryLayout, s: &[u8]) -> Front
+    requires { ⌜ length (now s) ≤ inputLimit ⌝ }
+    ensures { λ r. ⌜ toldFront r ≡ andThen (decodeAs layout (now (s .entry))) (λ v. given (frontOf layout (now (s .entry)))) ⌝ }
+{
+    match layout {
+        EntryLayout::Roll => match group_entries::decode_roll(s) {
+            DecodedRoll::Roll(_) => Front::Bytes(2),
+            DecodedRoll::Refused(n) => Front::Refused(n),
+        },
+        EntryLayout::Rap => match group_entries::decode_rap(s) {
+            DecodedRap::Rap(_) => Front::Bytes(1),
+            DecodedRap::Refused(n) => Front::Refused(n),
+        },
+        EntryLayout::Tele => match group_entries::decode_tele(s) {
+            DecodedTele::Tele(_) => Front::Bytes(1),
+            DecodedTele::Refused(n) => Front::Refused(n),
+        },
+        EntryLayout::Sap => match group_entries::decode_sap(s) {
+            DecodedSap::Sap(_) => Front::Bytes(1),
+            DecodedSap::Refused(n) => Front::Refused(n),
+        },
+        EntryLayout::Rash => match group_entries::decode_rash(s) {
+            DecodedRash::Rash(v) => Front::Bytes(
+                group_entries::rash_points_end(v.operation_point_count) + 9,
+            ),
+            DecodedRash::Refused(n) => Front::Refused(n),
+        },
+        EntryLayout::Alst => match group_entries::decode_alst(s) {
+            DecodedAlst::Alst(_) => Front::Bytes(s.len()),
+            DecodedAlst::Refused(n) => Front::Refused(n),
+        },
+        EntryLayout::Raw => Front::Bytes(s.len()),
+    }
+}
+
+// Whether the first n bytes are the same under a layout.
+fn same_front(layout: EntryLayout, a: &[u8], b: &[u8], n: usize) -> bool
+    requires { ⌜ (n ≤ length (now a)) × (n ≤ length (now b)) ⌝ }
+    ensures { λ r. ⌜ GivesSameFront layout (now (a .entry)) (now (b .entry)) n r ⌝ }
+{
+    let mut i = 0;
+    while i < n {
+        if significant(layout, a[i]) != significant(layout, b[i]) {
+            return false;
+        }
+        i += 1;
+    }
+    true
+}
+
+pub fn decode_alike(grouping_type: u32, a: &[u8], b: &[u8]) -> Alike
+    ensures { λ r. ⌜ GivesAlike «grouping_type» (now (a .entry)) (now (b .entry)) r ⌝ }
+{
+    if INPUT_LIMIT < a.len() {
+        return Alike::Refused(55);
+    }
+    if INPUT_LIMIT < b.len() {
+        return Alike::Refused(55);
+    }
+    let layout = layout_of(grouping_type);
+    let m = match front_of(layout, a) {
+        Front::Bytes(k) => k,
+        Front::Refused(code) => return Alike::Refused(code),
+    };
+    let n = match front_of(layout, b) {
+        Front::Bytes(k) => k,
+        Front::Refused(code) => return Alike::Refused(code),
+    };
+    if m != n {
+        return Alike::Different;
+    }
+    if same_front(layout, a, b, n) {
+        Alike::Same
+    } else {
+        Alike::Different
+    }
+}

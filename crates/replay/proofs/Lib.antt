@@ -1,3 +1,0 @@
-pub mod Entering
-pub mod Passing
-pub mod Copying

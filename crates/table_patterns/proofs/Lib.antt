@@ -1,0 +1,5 @@
+pub mod Widths
+pub mod Patterns
+pub mod Check
+pub mod Stretches
+pub mod Walk

@@ -1,0 +1,168 @@
+-- Rows written in front of a run of numbers, and copied behind those that stand there.
+use mathlib.Core.Path.{_≡_, refl, ap, sym, _∙_}
+use mathlib.Core.Logic.{_⊎_, ⊎-elim}
+use mathlib.Core.Bool.{Bool, true, false}
+use Prim.Native.Nat.{ℕ, zero, suc, _+_, _-_, _*_, _≤_, _<_}
+use native.Mathlib.Nat.{zero-add, zero-mul, suc-mul}
+use native.Mathlib.Omega.{arith}
+use mathlib.Core.List.{List, [], _∷_, _++_, reverse, reverse-cons, reverse-append, reverse-reverse, append-assoc}
+use lib.Dec.{eqb}
+use lib.ListN.{length, drop, set, getD, length-append, length-reverse}
+use lib.Seq.{drop-cons, set-at, getD-append-add}
+use Rattle.base_fields.specs.Answer.{choose}
+use Rattle.table_rows.specs.Row.{Row, flat}
+use Rattle.table_rows.proofs.Rows.{flat-append}
+use Rattle.table_replay.proofs.Repeating.{stacked}
+use Rattle.table_replay.specs.Records.{copied}
+use Rattle.table_replay.proofs.Entering.{below}
+
+flat-length : (rows : List Row) → length (flat rows) ≡ 2 * length rows
+unfolding flat
+flat-length [] = refl
+flat-length (r ∷ rows) = rw (flat-length rows) (omega arith)
+
+pub flat-last : (r : Row) (rs : List Row) → flat (reverse (r ∷ rs)) ≡ flat (reverse rs) ++ r .count ∷ r .index ∷ []
+unfolding flat
+flat-last r rs = rw (reverse-cons, flat-append)
+
+pub front-length : (rows : List Row) → length (flat (reverse rows)) ≡ 2 * length rows
+front-length rows = flat-length (reverse rows) ∙ rw (length-reverse rows) refl
+
+-- the run l, which was e, after rows were written in front
+abbrev pub Written : List ℕ → List ℕ → List Row → Type 0
+Written e l rows = l ≡ flat (reverse rows) ++ drop (2 * length rows) e
+
+module _ (e l : List ℕ) where
+  -- two numbers behind the rows that a run leaves below the last one
+  abbrev pub Place : List Row → Type 0
+  Place rows = (a : ℕ) × (b : ℕ) × (l ≡ flat (reverse rows) ++ a ∷ b ∷ drop (2 * suc (length rows)) e)
+
+  pub place-new : (rows : List Row) → Written e l rows → 2 * length rows + 2 ≤ length e → Place rows
+  place-new rows w h =
+      let m = 2 * length rows in
+      let n : suc (suc m) ≡ 2 * suc (length rows) = omega arith in
+      let a : m < length e = omega arith in
+      let b : suc m < length e = omega arith in (
+        getD e m 0,
+        getD e (suc m) 0,
+        w ∙ rw (drop-cons e m 0 a, drop-cons e (suc m) 0 b, n) refl,
+      )
+
+  place-last : (r : Row) (rs : List Row) → Written e l (r ∷ rs) → Place rs
+  place-last r rs w = (r .count, r .index, w ∙ rw (flat-last r rs, append-assoc))
+
+  pub place-below : (rows : List Row) (i : ℕ) → Written e l rows → 2 * length (below rows i) + 2 ≤ length e → Place (below rows i)
+  place-below [] i w h = place-new [] w h
+  place-below (r ∷ rs) i w h = by (eqb (r .index) i) h
+    where
+      by : (b : Bool) → 2 * length (choose b rs (r ∷ rs)) + 2 ≤ length e → Place (choose b rs (r ∷ rs))
+      by true h = place-last r rs w
+      by false h = place-new (r ∷ rs) w h
+
+  pub put : (rows : List Row) (x : Row) → Place rows → Written e (set (set l (2 * length rows) (x .count)) (2 * length rows + 1) (x .index)) (x ∷ rows)
+  put rows x (a, b, w) =
+      let f = flat (reverse rows) in
+      let m = 2 * length rows in
+      let d = drop (2 * suc (length rows)) e in
+      let n : length (f ++ x .count ∷ []) ≡ m + 1 = length-append f (x .count ∷ []) ∙ omega (arith, front-length rows) in
+      let one : set l m (x .count) ≡ (f ++ x .count ∷ []) ++ b ∷ d =
+      ap (λ (k : List ℕ). set k m (x .count)) w ∙ set-at f a (b ∷ d) (x .count) m (front-length rows) ∙ sym (append-assoc f (x .count ∷ []) (b ∷ d)) in
+      ap (λ (k : List ℕ). set k (m + 1) (x .index)) one
+      ∙ set-at (f ++ x .count ∷ []) b d (x .index) (m + 1) n
+      ∙ append-assoc f (x .count ∷ []) (x .index ∷ d)
+      ∙ rw (flat-last x rows) (sym (append-assoc f (x .count ∷ x .index ∷ []) d))
+
+-- one turn of the loop that copies, and its end
+pub copied-one : (i j end : ℕ) (l : List ℕ) {m : List ℕ} → 0 < i → i ≤ j → j < end → m ≡ set (set l (2 * (j - 1)) (getD l (2 * (i - 1)) 0)) (2 * (j - 1) + 1) (getD l (2 * (i - 1) + 1) 0) →
+    copied (end - j) (i - 1) (j - 1) l ≡ copied (end - (j + 1)) (i + 1 - 1) (j + 1 - 1) m
+unfolding copied
+copied-one i j end l p q h e =
+    let n : end - j ≡ suc (end - (j + 1)) = omega arith in
+    let a : i + 1 - 1 ≡ suc (i - 1) = omega arith in
+    let b : j + 1 - 1 ≡ suc (j - 1) = omega arith in
+    rw (n, a, b, e) refl
+
+pub copied-end : (n i j : ℕ) (l : List ℕ) → n ≡ 0 → copied n i j l ≡ l
+unfolding copied
+copied-end n i j l e = rw e refl
+
+copied-add : (m n i j : ℕ) (l : List ℕ) → copied (m + n) i j l ≡ copied n (m + i) (m + j) (copied m i j l)
+unfolding copied
+copied-add zero n i j l = rw (zero-add, zero-add, zero-add)
+copied-add (suc m) n i j l =
+    let a : suc m + n ≡ suc (m + n) = omega arith in
+    let b : suc m + i ≡ m + suc i = omega arith in
+    let c : suc m + j ≡ m + suc j = omega arith in
+    rw (a, b, c) (copied-add m n (suc i) (suc j) _)
+
+-- a row among those in front
+module _ (above : List Row) (x : Row) (others : List Row) (rest : List ℕ) where
+  front-parts : flat (reverse (above ++ x ∷ others)) ++ rest ≡ flat (reverse others) ++ (x .count ∷ x .index ∷ (flat (reverse above) ++ rest))
+  front-parts = rw (reverse-append, flat-append, flat-last) (simp append-assoc)
+
+  front-count : getD (flat (reverse (above ++ x ∷ others)) ++ rest) (2 * length others) 0 ≡ x .count
+  front-count =
+      let n : 2 * length others ≡ length (flat (reverse others)) + 0 = omega (arith, front-length others) in
+      rw (front-parts, n) (getD-append-add (flat (reverse others)) _ 0 0)
+
+  front-index : getD (flat (reverse (above ++ x ∷ others)) ++ rest) (2 * length others + 1) 0 ≡ x .index
+  front-index =
+      let n : 2 * length others + 1 ≡ length (flat (reverse others)) + 1 = omega (arith, front-length others) in
+      rw (front-parts, n) (getD-append-add (flat (reverse others)) _ 1 0)
+
+module _ (e : List ℕ) where
+  -- a row copied behind the others
+  copy-one : (l : List ℕ) (rows above : List Row) (x : Row) (others : List Row) → rows ≡ above ++ x ∷ others → Place e l rows → 2 * length rows + 4 ≤ length e →
+      Place e (set (set l (2 * length rows) (getD l (2 * length others) 0)) (2 * length rows + 1) (getD l (2 * length others + 1) 0)) (x ∷ rows)
+  copy-one l rows above x others q p h =
+      let w : l ≡ flat (reverse (above ++ x ∷ others)) ++ p .0 ∷ p .1 ∷ drop (2 * suc (length rows)) e = p .2 ∙ ap (λ (rs : List Row). flat (reverse rs) ++ p .0 ∷ p .1 ∷ drop (2 * suc (length rows)) e) q in
+      let c : getD l (2 * length others) 0 ≡ x .count = ap (λ (k : List ℕ). getD k (2 * length others) 0) w ∙ front-count above x others _ in
+      let d : getD l (2 * length others + 1) 0 ≡ x .index = ap (λ (k : List ℕ). getD k (2 * length others + 1) 0) w ∙ front-index above x others _ in
+      place-new e _ (x ∷ rows) (rw (c, d) (put e l rows x p)) (omega arith)
+
+  copy-all : (xs done others : List Row) (l : List ℕ) → Place e l (done ++ (reverse xs ++ others)) → 2 * length (done ++ (reverse xs ++ others)) + 2 * length xs + 2 ≤ length e →
+      Place e (copied (length xs) (length others) (length (done ++ (reverse xs ++ others))) l) (reverse xs ++ (done ++ (reverse xs ++ others)))
+  unfolding copied
+  copy-all [] done others l p h = p
+  copy-all (x ∷ xs) done others l p h =
+      let R = done ++ (reverse xs ++ (x ∷ others)) in
+      let q : done ++ (reverse (x ∷ xs) ++ others) ≡ R = rw reverse-cons (simp append-assoc) in
+      let z : reverse (x ∷ xs) ++ R ≡ reverse xs ++ (x ∷ R) = rw (reverse-cons, append-assoc) refl in
+      let n = ap length q in
+      let one = copy-one l R (done ++ reverse xs) x others (sym (append-assoc done (reverse xs) (x ∷ others))) (rw q at p) (omega arith) in
+      rw (q, z) (copy-all xs (x ∷ done) (x ∷ others) _ one (omega arith))
+
+  copy-period : (period others : List Row) (l : List ℕ) → Place e l (period ++ others) → 2 * length (period ++ others) + 2 * length period + 2 ≤ length e →
+      Place e (copied (length period) (length others) (length (period ++ others)) l) (period ++ (period ++ others))
+  copy-period period others l p h =
+      rw (reverse-reverse, length-reverse) at (copy-all (reverse period) [] others l (rw reverse-reverse p) (rw (reverse-reverse, length-reverse) h))
+
+  -- n periods
+  copy-periods : (n : ℕ) (period others : List Row) (l : List ℕ) → Place e l (period ++ others) → 2 * length (period ++ others) + 2 * (n * length period) + 2 ≤ length e →
+      Place e (copied (n * length period) (length others) (length (period ++ others)) l) (stacked n period (period ++ others))
+  unfolding copied stacked
+  copy-periods zero period others l p h = rw zero-mul p
+  copy-periods (suc n) period others l p h =
+      let m = length period in
+      let a : suc n * m ≡ m + n * m = omega (arith, suc-mul n m) in
+      let i : m + length others ≡ length (period ++ others) = sym (length-append period others) in
+      let j : m + length (period ++ others) ≡ length (period ++ (period ++ others)) = sym (length-append period (period ++ others)) in
+      rw (a, copied-add m (n * m), i, j) (copy-periods n period (period ++ others) _ (copy-period period others l p (omega arith)) (omega arith))
+
+  stacked-none : (n : ℕ) (period low : List Row) → n ≡ 0 → stacked n period low ≡ low
+  unfolding stacked
+  stacked-none n period low z = rw z refl
+
+  -- the rows of n periods copied, where there are any
+  pub copy-growth : (n a b : ℕ) (period others low : List Row) (l : List ℕ) → low ≡ period ++ others → (n ≡ 0) ⊎ (suc (length others) ≡ a) → b ≡ suc (length low) → Place e l low →
+      2 * length low + 2 * (n * length period) + 2 ≤ length e → Place e (copied (n * length period) (a - 1) (b - 1) l) (stacked n period low)
+  copy-growth n a b period others low l parts from q p h =
+      ⊎-elim
+      (λ z.
+      let y : n * length period ≡ 0 = rw z (zero-mul (length period)) in
+      rw (stacked-none n period low z, copied-end (n * length period) (a - 1) (b - 1) l y) p)
+      (λ z.
+      let i : a - 1 ≡ length others = omega arith in
+      let j : b - 1 ≡ length low = omega arith in
+      rw (i, j, parts) (copy-periods n period others l (rw parts at p) (rw parts at h)))
+      from

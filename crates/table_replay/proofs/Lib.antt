@@ -1,0 +1,5 @@
+pub mod Entering
+pub mod Passing
+pub mod Copying
+pub mod Replay
+pub mod Repeating

@@ -1,0 +1,91 @@
+use mathlib.Core.Path.{_≡_, refl, ap, sym, _∙_}
+use Prim.Native.Nat.{_-_, _≤_, _<_}
+use native.Mathlib.Omega.{arith}
+use lib.ListN.{length, length-set}
+use Rattle.table_replay.specs.Records.{copied}
+use Rattle.table_replay.proofs.Copying.{copied-one, copied-end}
+use Rattle.table_replay.proofs.records.copy_rows.Statement.{statement}
+use Rattle.table_replay.proofs.records.copy_rows.Tie as tie
+
+abbrev Inv-loop : tie.InvT-loop
+Inv-loop rows₀ from to end i₀ j₀ rows i j = (copied (end - j) (i - 1) (j - 1) rows ≡ copied (end - to) (from - 1) (to - 1) rows₀) × (j < end → (0 < i) × (i ≤ j)) × (length rows ≡ length rows₀)
+
+abbrev μ-loop : tie.MeasureT-loop
+μ-loop rows₀ from to end i₀ j₀ rows i j = end - j
+
+loop-holds : tie.Need-loop-holds Inv-loop μ-loop
+loop-holds c = (refl, c .before .pre .1, refl)
+
+sub-at : tie.Need-sub-at Inv-loop μ-loop
+sub-at c = let h = c .before .loop .inv .1 (c .loop-test .taken) in omega arith
+
+mul-at : tie.Need-mul-at Inv-loop μ-loop
+mul-at c = let h = c .before .loop .inv .1 (c .loop-test .taken) in omega arith
+
+mul-count : tie.Need-mul-count Inv-loop μ-loop
+mul-count c = let h = c .before .loop .inv .1 (c .loop-test .taken) in omega arith
+
+slice-read-count : tie.Need-slice-read-count Inv-loop μ-loop
+slice-read-count c = let h = c .before .before .loop .inv .1 (c .before .loop-test .taken) in omega arith
+
+add-index : tie.Need-add-index Inv-loop μ-loop
+add-index c = let h = c .before .before .loop .inv .1 (c .before .loop-test .taken) in omega arith
+
+mul-index : tie.Need-mul-index Inv-loop μ-loop
+mul-index c = let h = c .before .before .loop .inv .1 (c .before .loop-test .taken) in omega arith
+
+slice-read-index : tie.Need-slice-read-index Inv-loop μ-loop
+slice-read-index c = let h = c .before .before .before .loop .inv .1 (c .before .before .loop-test .taken) in omega arith
+
+sub-put-row : tie.Need-sub-put-row Inv-loop μ-loop
+sub-put-row c = let h = c .before .before .before .before .loop .inv .1 (c .before .before .before .loop-test .taken) in omega arith
+
+put-row-requires : tie.Need-put-row-requires Inv-loop μ-loop
+put-row-requires c κs = let h = c .before .before .before .before .loop .inv .1 (c .before .before .before .loop-test .taken) in omega arith
+
+add-i : tie.Need-add-i Inv-loop μ-loop
+add-i c = let h = c .before .before .before .before .before .before .before .loop .inv .1 (c .before .before .before .before .before .before .loop-test .taken) in omega arith
+
+add-j : tie.Need-add-j Inv-loop μ-loop
+add-j c = let h = c .before .before .before .before .before .before .before .loop .inv .1 (c .before .before .before .before .before .before .loop-test .taken) in omega arith
+
+loop-less : tie.Need-loop-less Inv-loop μ-loop
+loop-less c = omega (arith, c .before .before .before .before .before .before .loop-test .taken)
+
+loop-again : tie.Need-loop-again Inv-loop μ-loop
+loop-again c =
+    let h = c .before .before .before .before .before .before .before .loop .inv .1 (c .before .before .before .before .before .before .loop-test .taken) in
+    let q = c .before .before .put-row .ensures in (
+      sym (copied-one (c .before .before .before .before .before .before .before .loop .i) (c .before .before .before .before .before .before .before .loop .j) (c .before .before .before .before .before .before .before .before .before .args .end) (c .before .before .before .before .before .before .before .loop .rows) (h .0) (h .1) (c .before .before .before .before .before .before .loop-test .taken) q) ∙ c .before .before .before .before .before .before .before .loop .inv .0,
+      λ l. (omega arith, omega arith),
+      ap length q ∙ simp length-set (c .before .before .before .before .before .before .before .loop .inv .2),
+    )
+
+same-length : tie.Need-same-length Inv-loop μ-loop
+same-length c = c .before .loop .inv .2
+
+returns : tie.Need-returns Inv-loop μ-loop
+returns c = sym (copied-end _ _ _ _ (omega (arith, c .loop-test .left))) ∙ c .before .loop .inv .0
+
+pub copy-rows-spec : {M : Type 1} → statement M
+copy-rows-spec =
+    tie.close
+    (tie.spec
+    Inv-loop
+    μ-loop
+    loop-holds
+    sub-at
+    mul-at
+    mul-count
+    slice-read-count
+    add-index
+    mul-index
+    slice-read-index
+    sub-put-row
+    put-row-requires
+    add-i
+    add-j
+    loop-less
+    loop-again
+    same-length
+    returns)

@@ -1,0 +1,4 @@
+pub mod Enter
+pub mod Periods
+pub mod Records
+pub mod Replay

@@ -1,0 +1,33 @@
+// The records of a lent run of numbers that rows are written to.
+ghost use mathlib.Core.Path.{_≡_};
+ghost use Prim.Native.Nat.{_+_, _-_, _*_, _≤_, _<_};
+ghost use lib.ListN.{length, set};
+ghost use Rattle.table_replay.specs.Records.{copied};
+use base_ids::RowNumber;
+use base_ids::SampleCount;
+
+// Writes a row at record number `at`.
+pub fn put_row(rows: &mut [RowNumber], at: usize, count: SampleCount, index: u32)
+    requires { ⌜ 2 * at + 2 ≤ length (now rows) ⌝ }
+    ensures { λ r. ⌜ now (rows .exit) ≡ set (set (now (rows .entry)) (2 * at) count) (2 * at + 1) index ⌝ }
+{
+    rows[2 * at] = count;
+    rows[2 * at + 1] = index;
+}
+
+// Copies rows, counted from 1: row `from` to row `to`, and so on up to row `end` - 1.
+pub fn copy_rows(rows: &mut [RowNumber], from: usize, to: usize, end: usize)
+    requires { ⌜ (2 * end ≤ length (now rows)) × (to < end → (0 < from) × (from ≤ to)) ⌝ }
+    ensures { λ r. ⌜ now (rows .exit) ≡ copied (end - to) (from - 1) (to - 1) (now (rows .entry)) ⌝ }
+{
+    let mut i = from;
+    let mut j = to;
+    while j < end {
+        let at = 2 * (i - 1);
+        let count = rows[at];
+        let index = rows[at + 1];
+        put_row(rows, j - 1, count, index);
+        i = i + 1;
+        j = j + 1;
+    }
+}

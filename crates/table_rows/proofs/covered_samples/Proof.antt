@@ -1,0 +1,19 @@
+use borrow.Author.Tests.{lt-ltb, le-ltb}
+use borrow.Author.Needs.{needs}
+use Rattle.table_rows.proofs.covered_samples.Statement.{statement}
+use Rattle.table_rows.proofs.covered_samples.Tie as tie
+use Rattle.table_rows.proofs.covered_samples.Reads as reads
+use Rattle.table_rows.proofs.covered_samples.Lts as lts
+use Rattle.table_rows.proofs.sum_of_counts.Reads as sum-of-counts-reads
+
+returns : tie.Need-returns
+returns c = simp (lt-ltb _ _ (c .if1 .taken))
+
+sum-of-counts-requires : tie.Need-sum-of-counts-requires
+sum-of-counts-requires c κs = search needs
+
+returns-2 : tie.Need-returns-2
+returns-2 c = simp (c .sum-of-counts .ensures, le-ltb _ _ (c .before .if1 .left))
+
+pub covered-samples-spec : {M : Type 1} → statement M
+covered-samples-spec = tie.close (tie.spec returns sum-of-counts-requires returns-2)

@@ -1,0 +1,109 @@
+use mathlib.Core.Path.{_≡_, refl}
+use mathlib.Core.List.{_++_}
+use Prim.Native.Nat.{_+_, _-_, _*_, _≤_, _<_}
+use native.Mathlib.Omega.{arith}
+use lib.ListN.{length, drop, length-set}
+use borrow.Author.Needs.{needs}
+use Rattle.table_rows.specs.Row.{flat}
+use Rattle.table_sbgp.specs.Sbgp.{readRows}
+use Rattle.table_sbgp.proofs.Table.{put-next}
+use Rattle.table_sbgp.proofs.fill.Statement.{statement}
+use Rattle.table_sbgp.proofs.fill.Tie as tie
+use Rattle.table_sbgp.proofs.fill.Reads as reads
+use Rattle.table_sbgp.proofs.fill.Lts as lts
+use Rattle.base_fields.proofs.read_u32.Reads as read-u32-reads
+
+abbrev Inv-loop : tie.InvT-loop
+Inv-loop s first count rows₀ k₀ rows k = (k ≤ count) × (length rows ≡ length rows₀) × (rows ≡ flat (readRows k s first) ++ drop (2 * k) rows₀)
+
+abbrev μ-loop : tie.MeasureT-loop
+μ-loop s first count rows₀ k₀ rows k = count - k
+
+loop-holds : tie.Need-loop-holds Inv-loop μ-loop
+unfolding readRows flat
+loop-holds c = (search needs, refl, refl)
+
+mul-at : tie.Need-mul-at Inv-loop μ-loop
+mul-at c = search needs
+
+add-at : tie.Need-add-at Inv-loop μ-loop
+add-at c = search needs
+
+read-u32-requires : tie.Need-read-u32-requires Inv-loop μ-loop
+read-u32-requires c κs = search needs
+
+add-read-u32 : tie.Need-add-read-u32 Inv-loop μ-loop
+add-read-u32 c = search needs
+
+read-u32-requires-2 : tie.Need-read-u32-requires-2 Inv-loop μ-loop
+read-u32-requires-2 c κs = search needs
+
+mul-rows : tie.Need-mul-rows Inv-loop μ-loop
+mul-rows c = search needs
+
+mul-rows-2 : tie.Need-mul-rows-2 Inv-loop μ-loop
+mul-rows-2 c = search needs
+
+slice-write-rows : tie.Need-slice-write-rows Inv-loop μ-loop
+slice-write-rows c = search needs
+
+mul-rows-3 : tie.Need-mul-rows-3 Inv-loop μ-loop
+mul-rows-3 c = search needs
+
+add-rows : tie.Need-add-rows Inv-loop μ-loop
+add-rows c = search needs
+
+mul-rows-4 : tie.Need-mul-rows-4 Inv-loop μ-loop
+mul-rows-4 c = search needs
+
+slice-write-rows-2 : tie.Need-slice-write-rows-2 Inv-loop μ-loop
+slice-write-rows-2 c = simp length-set (omega arith)
+
+add-k : tie.Need-add-k Inv-loop μ-loop
+add-k c = search needs
+
+loop-less : tie.Need-loop-less Inv-loop μ-loop
+loop-less c = search needs
+
+loop-again : tie.Need-loop-again Inv-loop μ-loop
+loop-again c =
+    let a = c .before .before .before .before .before .before .args in
+    let k = c .before .before .before .loop .k in
+    let h : 2 * k + 1 < length (a .rows .now) = omega arith in (
+      search needs,
+      simp length-set (c .before .before .before .loop .inv .1),
+      rw (c .before .before .before .loop .inv .2, c .before .read-u32 .ensures .0, c .read-u322 .ensures .0) (put-next (a .s .now) (a .first) k (a .rows .now) h),
+    )
+
+same-length : tie.Need-same-length Inv-loop μ-loop
+same-length c = c .before .loop .inv .1
+
+returns : tie.Need-returns Inv-loop μ-loop
+returns c =
+    let e : c .before .loop .k ≡ c .before .before .before .before .args .count = omega arith in
+    rw e at (c .before .loop .inv .2)
+
+pub fill-spec : {M : Type 1} → statement M
+fill-spec =
+    tie.close
+    (tie.spec
+    Inv-loop
+    μ-loop
+    loop-holds
+    mul-at
+    add-at
+    read-u32-requires
+    add-read-u32
+    read-u32-requires-2
+    mul-rows
+    mul-rows-2
+    slice-write-rows
+    mul-rows-3
+    add-rows
+    mul-rows-4
+    slice-write-rows-2
+    add-k
+    loop-less
+    loop-again
+    same-length
+    returns)

@@ -1,0 +1,9 @@
+-- The whole table.
+use mathlib.Core.List.{List, _++_}
+use Rattle.test_starred.specs.Case.{Case}
+use Rattle.test_starred.specs.Headers.{headers}
+use Rattle.test_starred.specs.Tables.{tables}
+use Rattle.test_starred.specs.Descriptions.{descriptions}
+
+abbrev pub cases : List Case
+cases = headers ++ tables ++ descriptions

@@ -1,0 +1,44 @@
+use mathlib.Core.Path.{sym, _∙_}
+use borrow.Author.Tests.{eq-eqb, ne-eqb}
+use borrow.Author.Needs.{needs}
+use Rattle.test_vector_lines.proofs.agrees.Statement.{statement}
+use Rattle.test_vector_lines.proofs.agrees.Tie as tie
+use Rattle.test_vector_lines.proofs.agrees.Reads as reads
+use Rattle.test_vector_lines.proofs.agrees.Lts as lts
+use Rattle.test_vector_lines.proofs.numbers.Reads as numbers-reads
+use Rattle.test_vector_lines.proofs.same_numbers.Reads as same-numbers-reads
+use Rattle.test_vector_lines.proofs.same_status.Reads as same-status-reads
+
+same-status-requires : tie.Need-same-status-requires
+same-status-requires c κs = search needs
+
+returns : tie.Need-returns
+returns c =
+    let a = c .before .before .before .before .before .args in
+    simp (sym (c .before .before .same-status .ensures) ∙ c .before .if1 .taken, ne-eqb (a .status) 0 (c .if2 .taken))
+
+numbers-requires : tie.Need-numbers-requires
+numbers-requires c κs = search needs
+
+same-numbers-requires : tie.Need-same-numbers-requires
+same-numbers-requires c κs = search needs
+
+returns-2 : tie.Need-returns-2
+returns-2 c =
+    let a = c .before .before .before .before .before .before .before .args in
+    let same = sym (c .before .before .before .before .same-status .ensures) ∙ c .before .before .before .if1 .taken in
+    simp (same, eq-eqb (a .status) 0 (c .before .before .if2 .left)) (cc)
+
+returns-3 : tie.Need-returns-3
+returns-3 c = simp (sym (c .before .same-status .ensures) ∙ c .if1 .left)
+
+pub agrees-spec : {M : Type 1} → statement M
+agrees-spec =
+    tie.close
+    (tie.spec
+    same-status-requires
+    returns
+    numbers-requires
+    same-numbers-requires
+    returns-2
+    returns-3)

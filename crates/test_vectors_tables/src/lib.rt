@@ -1,0 +1,112 @@
+// Stored answers of the Rust for sample tables and lookups: whether the library gives the answer that a record has.
+
+// The record has this status and, with 0, the table's head and then its rows.
+fn same_table(record: &[u8], status: u32, head: &[u64], count: u64, rows: &[u32]) -> bool {
+    if test_vector_lines::same_status(record, status) {
+        if status != 0 {
+            return true;
+        }
+        let seen = test_vector_lines::numbers(record);
+        if test_vector_lines::same_numbers(test_vector_lines::front(seen, 24), head) {
+            return same_rows(test_vector_lines::rest(seen, 24), rows, count);
+        }
+    }
+    false
+}
+
+// The bytes are those of the first `count` rows.
+fn same_rows(seen: &[u8], rows: &[u32], count: u64) -> bool {
+    let n = seen.len() / 8;
+    if rows.len() < n {
+        return false;
+    }
+    if (n / 2) as u64 != count {
+        return false;
+    }
+    let mut k: usize = 0;
+    while k < n {
+        if base_fields::read_u64(seen, 8 * k) != rows[k] as u64 {
+            return false;
+        }
+        k = k + 1;
+    }
+    true
+}
+
+// A run of rows has at most 128 numbers here; the record's argument says how many are lent.
+fn table(record: &[u8]) -> bool {
+    let mut space = [0u32; 128];
+    let room = test_vector_lines::argument(record, 0);
+    if 128 < room {
+        return false;
+    }
+    parsed(record, &mut space[..room as usize])
+}
+
+fn parsed(record: &[u8], rows: &mut [u32]) -> bool {
+    let mut out = [0u64; 3];
+    let status = parse(record, rows, &mut out);
+    same_table(record, status, &[out[0], out[1], out[2]], out[2], rows)
+}
+
+fn parse(record: &[u8], rows: &mut [u32], out: &mut [u64; 3]) -> u32 {
+    if test_vector_lines::entry(record) == 5 {
+        film_tables::film_parse_sbgp(test_vector_lines::input(record), rows, out)
+    } else {
+        film_tables::film_parse_csgp(test_vector_lines::input(record), rows, out)
+    }
+}
+
+// The bytes as numbers of a run.
+fn load(s: &[u8], rows: &mut [u32]) {
+    let mut k: usize = 0;
+    while k < rows.len() {
+        if s.len() / 4 <= k {
+            return;
+        }
+        rows[k] = base_fields::read_u32(s, 4 * k);
+        k = k + 1;
+    }
+}
+
+// The first n numbers, or all.
+fn front(rows: &[u32], n: usize) -> &[u32] {
+    if rows.len() < n {
+        return rows;
+    }
+    &rows[0..n]
+}
+
+// The record's input is a run of rows.
+fn lookup(record: &[u8]) -> bool {
+    let s = test_vector_lines::input(record);
+    let mut space = [0u32; 128];
+    load(s, &mut space);
+    let mut out = [0u64; 1];
+    let status = film_tables::film_group_index_for_sample(
+        front(&space, s.len() / 4),
+        test_vector_lines::argument_u32(record, 0),
+        &mut out,
+    );
+    test_vector_lines::agrees(record, status, &[out[0]])
+}
+
+fn covered(record: &[u8]) -> bool {
+    let s = test_vector_lines::input(record);
+    let mut space = [0u32; 128];
+    load(s, &mut space);
+    let mut out = [0u64; 1];
+    let status = film_tables::film_covered_samples(front(&space, s.len() / 4), &mut out);
+    test_vector_lines::agrees(record, status, &[out[0]])
+}
+
+// The entry that the record names, by its number in docs/VECTORS.md.
+pub fn agrees(record: &[u8]) -> bool {
+    match test_vector_lines::entry(record) {
+        5 => table(record),
+        6 => table(record),
+        7 => lookup(record),
+        8 => covered(record),
+        _ => false,
+    }
+}
