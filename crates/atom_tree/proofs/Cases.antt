@@ -9,24 +9,28 @@ use borrow.Author.Tests.{lt-ltb, le-ltb, le-leb, lt-leb, eq-eqb, ne-eqb}
 use Rattle.base_fields.specs.Answer as answer
 use Rattle.base_fields.specs.Answer.{Answer, given, refused, inputLimit, andThen}
 use Rattle.base_fields.specs.Number.{beAt}
-use Rattle.atom_tree.specs.Atom.{Known, Header, Child, present, lastPlace, header, extended, bySize, headerAt, childAt, endOf, inside}
+use Rattle.atom_tree.specs.Atom.{Known, Header, Child, present, lastPlace, header, extended, bySize, headerAt, childAt, endOf, inside, sizedHeader}
 use Rattle.base_fields.specs.Span.{Span}
 
+-- a header of n bytes and a known size
+module _ (s : List ℕ) (p size n : ℕ) where
+  pub sized-far : lastPlace < p + size → refused 5 ≡ sizedHeader s p (some size) n
+  sized-far h = simp (lt-ltb lastPlace (p + size) h)
+
+  pub sized-near : p + size ≤ lastPlace → given (header s p (some size) n) ≡ sizedHeader s p (some size) n
+  sized-near h = simp (le-ltb lastPlace (p + size) h)
+
 module _ (s : List ℕ) (p : ℕ) where
-  -- the extended size is `size`, and the type is `type`
   pub extended-cut : length s < p + 16 → refused 2 ≡ extended s p
   extended-cut h = simp (lt-ltb (length s) (p + 16) h)
 
+  -- the extended size is `size`
   module _ (there : p + 16 ≤ length s) (size : ℕ) (is : size ≡ beAt 8 s (p + 8)) where
     pub extended-small : size < 16 → refused 4 ≡ extended s p
     extended-small h = rw (← is) (simp (le-ltb (length s) (p + 16) there, lt-ltb size 16 h))
 
-    pub extended-far : 16 ≤ size → lastPlace < p + size → refused 5 ≡ extended s p
-    extended-far h f = rw (← is) (simp (le-ltb (length s) (p + 16) there, le-ltb size 16 h, lt-ltb lastPlace (p + size) f))
-
-    pub extended-given : 16 ≤ size → p + size ≤ lastPlace → (type : ℕ) → type ≡ beAt 4 s (p + 4) → given (record { type = type; size = some size; headerLength = 16; body = p + 16 }) ≡ extended s p
-    extended-given h f type t =
-        rw (← is, t) (simp (le-ltb (length s) (p + 16) there, le-ltb size 16 h, le-ltb lastPlace (p + size) f))
+    pub extended-sized : 16 ≤ size → sizedHeader s p (some size) 16 ≡ extended s p
+    extended-sized h = rw (← is) (simp (le-ltb (length s) (p + 16) there, le-ltb size 16 h))
 
   module _ (short : length s ≤ inputLimit) where
     pub header-none : length s ≤ p → answer.none ≡ headerAt s p
@@ -46,8 +50,8 @@ module _ (s : List ℕ) (p : ℕ) where
   unfolding headerAt
   header-long h = simp (lt-ltb inputLimit (length s) h)
 
-  pub by-size-open : (size : ℕ) → size ≡ 0 → given (header s p none 8) ≡ bySize s p size
-  by-size-open size e = simp (e)
+  pub by-size-open : (size : ℕ) → size ≡ 0 → sizedHeader s p none 8 ≡ bySize s p size
+  by-size-open size e = rw e refl
 
   pub by-size-extended : (size : ℕ) → size ≡ 1 → extended s p ≡ bySize s p size
   by-size-extended size e = rw e refl
@@ -56,8 +60,8 @@ module _ (s : List ℕ) (p : ℕ) where
     pub by-size-small : size < 8 → refused 3 ≡ bySize s p size
     by-size-small h = simp (ne-eqb size 0 not0, ne-eqb size 1 not1, lt-ltb size 8 h)
 
-    pub by-size-given : 8 ≤ size → p + size ≤ lastPlace → given (header s p (some size) 8) ≡ bySize s p size
-    by-size-given h f = simp (ne-eqb size 0 not0, ne-eqb size 1 not1, le-ltb size 8 h, le-ltb lastPlace (p + size) f)
+    pub by-size-itself : 8 ≤ size → sizedHeader s p (some size) 8 ≡ bySize s p size
+    by-size-itself h = simp (ne-eqb size 0 not0, ne-eqb size 1 not1, le-ltb size 8 h)
 
 -- a child by its header's size and its parent's end
 module _ (p : ℕ) (h : Header) where

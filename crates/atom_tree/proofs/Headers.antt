@@ -11,11 +11,11 @@ use Rattle.base_fields.specs.Answer as answer
 use Rattle.base_fields.specs.Answer.{Answer, given, refused, andThen, inputLimit, refuseIf, noneIf}
 use Rattle.base_fields.specs.Number.{beAt}
 use Rattle.base_fields.proofs.Answers.{Holds, holds-refuseIf, holds-noneIf, holds-choose, holds-given}
-use Rattle.atom_tree.specs.Atom.{Known, Header, Ends, Sound, lastPlace, header, sized, extended, bySize, headerAt, declared, declaredAt}
+use Rattle.atom_tree.specs.Atom.{Known, Header, Ends, Sound, lastPlace, header, extended, bySize, headerAt, declared, declaredAt, sizedHeader}
 use Rattle.base_fields.specs.Span.{Span}
 
 module _ (s : List ℕ) (p : ℕ) where
-  sized-sound : (size n : ℕ) → n ≤ size → Holds (Sound p) (sized s p size n)
+  sized-sound : (size n : ℕ) → n ≤ size → Holds (Sound p) (sizedHeader s p (some size) n)
   sized-sound size n h =
       holds-refuseIf (Sound p) (ltb lastPlace (p + size)) 5 (given (header s p (some size) n))
       (λ e. record { body = refl; ends = (h, ltb-false lastPlace (p + size) e) })
@@ -23,17 +23,17 @@ module _ (s : List ℕ) (p : ℕ) where
   extended-sound : Holds (Sound p) (extended s p)
   extended-sound =
       let size = beAt 8 s (p + 8) in
-      holds-refuseIf (Sound p) (ltb (length s) (p + 16)) 2 (refuseIf (ltb size 16) 4 (sized s p size 16))
-      (λ there. holds-refuseIf (Sound p) (ltb size 16) 4 (sized s p size 16) (λ e. sized-sound size 16 (ltb-false size 16 e)))
+      holds-refuseIf (Sound p) (ltb (length s) (p + 16)) 2 (refuseIf (ltb size 16) 4 (sizedHeader s p (some size) 16))
+      (λ there. holds-refuseIf (Sound p) (ltb size 16) 4 (sizedHeader s p (some size) 16) (λ e. sized-sound size 16 (ltb-false size 16 e)))
 
   by-size-sound : (size : ℕ) → Holds (Sound p) (bySize s p size)
   by-size-sound size =
-      let rest = refuseIf (ltb size 8) 3 (sized s p size 8) in
+      let rest = refuseIf (ltb size 8) 3 (sizedHeader s p (some size) 8) in
       holds-choose (Sound p) (eqb size 0) (given (header s p none 8)) _
       (λ e. record { body = refl; ends = tt })
       (λ e. holds-choose (Sound p) (eqb size 1) (extended s p) rest
       (λ f. extended-sound)
-      (λ f. holds-refuseIf (Sound p) (ltb size 8) 3 (sized s p size 8) (λ g. sized-sound size 8 (ltb-false size 8 g))))
+      (λ f. holds-refuseIf (Sound p) (ltb size 8) 3 (sizedHeader s p (some size) 8) (λ g. sized-sound size 8 (ltb-false size 8 g))))
 
   sound : Holds (Sound p) (headerAt s p)
   unfolding headerAt

@@ -6,7 +6,6 @@ use mathlib.Core.List.{List}
 use mathlib.Core.Option.{Option, none, some}
 use lib.Dec.{ltb, leb, eqb}
 use lib.ListN.{length}
-use Rattle.base_fields.specs.Answer as answer
 use Rattle.base_fields.specs.Answer.{Answer, given, refused, choose, refuseIf, noneIf, andThen, within}
 use Rattle.base_fields.specs.Number.{beAt}
 use Rattle.base_fields.specs.Span.{Span}
@@ -29,21 +28,26 @@ lastPlace = 18446744073709551615
 abbrev pub header : List ℕ → ℕ → Known → ℕ → Header
 header s p size n = record { type = beAt 4 s (p + 4); size = size; headerLength = n; body = p + n }
 
--- a header of n bytes and a known size: 5 where the atom ends past the largest place
-abbrev pub sized : List ℕ → ℕ → ℕ → ℕ → Answer Header
-sized s p size n = refuseIf (ltb lastPlace (p + size)) 5 (given (header s p (some size) n))
+-- the atom ends past the largest place
+abbrev pub farEnd : ℕ → Known → Bool
+farEnd p none = false
+farEnd p (some size) = ltb lastPlace (p + size)
+
+-- a header of n bytes: 5 where the end is too far
+abbrev pub sizedHeader : List ℕ → ℕ → Known → ℕ → Answer Header
+sizedHeader s p size n = refuseIf (farEnd p size) 5 (given (header s p size n))
 
 -- the extended size stands in the next 8 bytes
 abbrev pub extended : List ℕ → ℕ → Answer Header
 extended s p =
     refuseIf (ltb (length s) (p + 16)) 2
-    (refuseIf (ltb (beAt 8 s (p + 8)) 16) 4 (sized s p (beAt 8 s (p + 8)) 16))
+    (refuseIf (ltb (beAt 8 s (p + 8)) 16) 4 (sizedHeader s p (some (beAt 8 s (p + 8))) 16))
 
 -- by the 32-bit size: 0 is open-ended, 1 takes an extended size, 2 to 7 is refused, 8 and up is itself
 abbrev pub bySize : List ℕ → ℕ → ℕ → Answer Header
 bySize s p size =
-    choose (eqb size 0) (given (header s p none 8))
-    (choose (eqb size 1) (extended s p) (refuseIf (ltb size 8) 3 (sized s p size 8)))
+    choose (eqb size 0) (sizedHeader s p none 8)
+    (choose (eqb size 1) (extended s p) (refuseIf (ltb size 8) 3 (sizedHeader s p (some size) 8)))
 
 -- Part 1
 unfoldable pub headerAt : List ℕ → ℕ → Answer Header

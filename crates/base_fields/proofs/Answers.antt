@@ -22,11 +22,23 @@ module _ {A : Type 0} where
   given-past true n rest e = absurd (refused-given e)
   given-past false n rest e = (refl, e)
 
+  -- a refusal stays where what stands behind the test is another answer with the same refusal
+  pub refused-past : {B : Type 0} (test : Bool) (m : ℕ) (x : Answer A) (y : Answer B) {n : ℕ} → (x ≡ refused n → y ≡ refused n) → refuseIf test m x ≡ refused n
+      → refuseIf test m y ≡ refused n
+  refused-past true m x y f e = cc
+  refused-past false m x y f e = f e
+
   -- and behind the value that it was made from
   pub given-first : {B : Type 0} (a : Answer A) (f : A → Answer B) {y : B} → andThen a f ≡ given y → (x : A) × (a ≡ given x) × (f x ≡ given y)
   given-first (given x) f e = (x, refl, e)
   given-first none f e = let z : _≡_ {A = ℕ} 0 1 = cc in absurd (omega arith)
   given-first (refused n) f e = let z : _≡_ {A = ℕ} 0 1 = cc in absurd (omega arith)
+
+  -- a refusal is the first part's own where a value is made of a value
+  pub refused-first : {B : Type 0} (a : Answer A) (f : A → B) {n : ℕ} → andThen a (λ x. given (f x)) ≡ refused n → a ≡ refused n
+  refused-first (given x) f e = let z : _≡_ {A = ℕ} 0 1 = cc in absurd (omega arith)
+  refused-first none f e = let z : _≡_ {A = ℕ} 0 1 = cc in absurd (omega arith)
+  refused-first (refused n) f e = cc
 
   -- an input that is not too long
   pub within-short : (s : List ℕ) (rest : Answer A) → length s ≤ inputLimit → within s rest ≡ rest

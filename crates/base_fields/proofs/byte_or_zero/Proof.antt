@@ -5,8 +5,6 @@ use Rattle.base_fields.proofs.Bytes.{beAt-one}
 use borrow.Author.Needs.{needs}
 use Rattle.base_fields.proofs.byte_or_zero.Statement.{statement}
 use Rattle.base_fields.proofs.byte_or_zero.Tie as tie
-use Rattle.base_fields.proofs.byte_or_zero.Reads as reads
-use Rattle.base_fields.proofs.byte_or_zero.Lts as lts
 
 shared-slice-read-result : tie.Need-shared-slice-read-result
 shared-slice-read-result c = search needs

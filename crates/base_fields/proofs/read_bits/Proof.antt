@@ -1,3 +1,4 @@
+-- The field lies in the window of five bytes: `window` gives their number, and shift and remainder cut the field out of it.
 use mathlib.Core.Path.{_≡_, sym, _∙_}
 use Prim.Native.Nat.{ℕ, _+_, _-_, _*_, _/_, _%_, _^_, _<_, _≤_}
 use native.Mathlib.Nat.{mod-lt, one-mul, mod-eq-of-lt, lt-of-lt-of-le}
@@ -7,9 +8,6 @@ use Rattle.base_fields.proofs.Bits.{bits-of}
 use borrow.Author.Needs.{needs}
 use Rattle.base_fields.proofs.read_bits.Statement.{statement}
 use Rattle.base_fields.proofs.read_bits.Tie as tie
-use Rattle.base_fields.proofs.read_bits.Reads as reads
-use Rattle.base_fields.proofs.read_bits.Lts as lts
-use Rattle.base_fields.proofs.window.Reads as window-reads
 
 cast-skipped : tie.Need-cast-skipped
 cast-skipped c = search needs

@@ -1,11 +1,9 @@
+-- Two numbers of half the width, one behind the other (`beAt-split`).
 use native.Mathlib.Omega.{arith}
 use Rattle.base_fields.proofs.Bytes.{beAt-split}
 use borrow.Author.Needs.{needs}
 use Rattle.base_fields.proofs.read_u16.Statement.{statement}
 use Rattle.base_fields.proofs.read_u16.Tie as tie
-use Rattle.base_fields.proofs.read_u16.Reads as reads
-use Rattle.base_fields.proofs.read_u16.Lts as lts
-use Rattle.base_fields.proofs.read_u8.Reads as read-u8-reads
 
 read-u8-requires : tie.Need-read-u8-requires
 read-u8-requires c κs = search needs

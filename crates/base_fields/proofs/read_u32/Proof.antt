@@ -1,11 +1,9 @@
+-- Two numbers of half the width, one behind the other (`beAt-split`).
 use native.Mathlib.Omega.{arith}
 use Rattle.base_fields.proofs.Bytes.{beAt-split}
 use borrow.Author.Needs.{needs}
 use Rattle.base_fields.proofs.read_u32.Statement.{statement}
 use Rattle.base_fields.proofs.read_u32.Tie as tie
-use Rattle.base_fields.proofs.read_u32.Reads as reads
-use Rattle.base_fields.proofs.read_u32.Lts as lts
-use Rattle.base_fields.proofs.read_u16.Reads as read-u16-reads
 
 read-u16-requires : tie.Need-read-u16-requires
 read-u16-requires c κs = search needs

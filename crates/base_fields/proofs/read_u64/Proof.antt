@@ -1,11 +1,9 @@
+-- Two numbers of half the width, one behind the other (`beAt-split`).
 use native.Mathlib.Omega.{arith}
 use Rattle.base_fields.proofs.Bytes.{beAt-split}
 use borrow.Author.Needs.{needs}
 use Rattle.base_fields.proofs.read_u64.Statement.{statement}
 use Rattle.base_fields.proofs.read_u64.Tie as tie
-use Rattle.base_fields.proofs.read_u64.Reads as reads
-use Rattle.base_fields.proofs.read_u64.Lts as lts
-use Rattle.base_fields.proofs.read_u32.Reads as read-u32-reads
 
 read-u32-requires : tie.Need-read-u32-requires
 read-u32-requires c κs = search needs

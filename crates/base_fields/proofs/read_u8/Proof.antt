@@ -3,8 +3,6 @@ use Rattle.base_fields.proofs.Bytes.{beAt-one}
 use borrow.Author.Needs.{needs}
 use Rattle.base_fields.proofs.read_u8.Statement.{statement}
 use Rattle.base_fields.proofs.read_u8.Tie as tie
-use Rattle.base_fields.proofs.read_u8.Reads as reads
-use Rattle.base_fields.proofs.read_u8.Lts as lts
 
 shared-slice-read-result : tie.Need-shared-slice-read-result
 shared-slice-read-result c = search needs

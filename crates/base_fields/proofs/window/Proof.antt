@@ -1,13 +1,9 @@
+-- Five bytes in the input are read as four and one; where some are missing, each is read by itself, as 0 past the end.
 use native.Mathlib.Omega.{arith}
 use Rattle.base_fields.proofs.Bytes.{beAt-split}
 use borrow.Author.Needs.{needs}
 use Rattle.base_fields.proofs.window.Statement.{statement}
 use Rattle.base_fields.proofs.window.Tie as tie
-use Rattle.base_fields.proofs.window.Reads as reads
-use Rattle.base_fields.proofs.window.Lts as lts
-use Rattle.base_fields.proofs.byte_or_zero.Reads as byte-or-zero-reads
-use Rattle.base_fields.proofs.read_u32.Reads as read-u32-reads
-use Rattle.base_fields.proofs.read_u8.Reads as read-u8-reads
 
 add-if1 : tie.Need-add-if1
 add-if1 c = search needs

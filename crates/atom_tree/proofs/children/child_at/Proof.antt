@@ -1,14 +1,11 @@
+-- By the header reader's answer: the header case goes on, none and refusal return.
 use mathlib.Core.Path.{_≡_, refl, ap, sym, _∙_}
 use Rattle.atom_tree.specs.Told.{toldHeader}
 use Rattle.atom_tree.proofs.Enums.{is-nothing}
 use Rattle.atom_tree.proofs.Headers.{header-sound}
 use borrow.Author.Needs.{needs}
-use Rattle.atom_tree.proofs.child_at.Statement.{statement}
-use Rattle.atom_tree.proofs.child_at.Tie as tie
-use Rattle.atom_tree.proofs.child_at.Reads as reads
-use Rattle.atom_tree.proofs.child_at.Lts as lts
-use Rattle.atom_tree.proofs.child_of.Reads as child-of-reads
-use Rattle.atom_tree.proofs.read_atom_header.Reads as read-atom-header-reads
+use Rattle.atom_tree.proofs.children.child_at.Statement.{statement}
+use Rattle.atom_tree.proofs.children.child_at.Tie as tie
 
 read-atom-header-requires : tie.Need-read-atom-header-requires
 read-atom-header-requires c κs = search needs

@@ -1,3 +1,4 @@
+-- The declared body, then the envelope; under it, `present` is the same as without one.
 use mathlib.Core.Path.{_≡_, refl, ap, sym, _∙_}
 use mathlib.Core.Option.{none, some}
 use borrow.Author.Tests.{lt-ltb}
@@ -9,12 +10,8 @@ use Rattle.atom_tree.proofs.Enums.{no-body}
 use Rattle.atom_tree.proofs.Headers.{declared-fits}
 use Rattle.atom_tree.proofs.Cases.{under-envelope}
 use borrow.Author.Needs.{needs}
-use Rattle.atom_tree.proofs.read_payload_bounded.Statement.{statement}
-use Rattle.atom_tree.proofs.read_payload_bounded.Tie as tie
-use Rattle.atom_tree.proofs.read_payload_bounded.Reads as reads
-use Rattle.atom_tree.proofs.read_payload_bounded.Lts as lts
-use Rattle.atom_tree.proofs.declared_payload.Reads as declared-payload-reads
-use Rattle.atom_tree.proofs.present_payload.Reads as present-payload-reads
+use Rattle.atom_tree.proofs.body.read_payload_bounded.Statement.{statement}
+use Rattle.atom_tree.proofs.body.read_payload_bounded.Tie as tie
 
 declared-payload-requires : tie.Need-declared-payload-requires
 declared-payload-requires c κs = search needs
@@ -32,9 +29,13 @@ present-payload-requires : tie.Need-present-payload-requires
 present-payload-requires c κs = declared-fits _ _ (sym (c .before .before .before .before .declared-payload .ensures) ∙ ap toldPayload (c .before .before .body .given .1))
 
 returns-3 : tie.Need-returns-3
-returns-3 c = rw (← c .before .before .before .before .before .declared-payload .ensures)
-    (rw (c .before .before .before .body .given .1)
-    (c .present-payload .ensures ∙ under-envelope (c .before .before .before .before .before .before .before .args .s .now) (c .before .before .before .before .before .before .before .args .max-remaining) (record { place = c .before .before .before .body .given .0 .0; size = c .before .before .before .body .given .0 .1 .0 }) (c .before .if1 .left)))
+returns-3 c =
+    let bound = c .before .before .before in
+    let called = bound .before .before in
+    let a = called .before .before .args in
+    let span : Span = record { place = bound .body .given .0 .0; size = bound .body .given .0 .1 .0 } in
+    rw (← called .declared-payload .ensures)
+    (rw (bound .body .given .1) (c .present-payload .ensures ∙ under-envelope (a .s .now) (a .max-remaining) span (c .before .if1 .left)))
 
 pub read-payload-bounded-spec : {M : Type 1} → statement M
 read-payload-bounded-spec =

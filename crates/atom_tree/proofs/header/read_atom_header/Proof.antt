@@ -1,12 +1,10 @@
+-- 55, none, 1, then by the 32-bit size.
 use mathlib.Core.Path.{_∙_}
 use native.Mathlib.Omega.{arith}
 use Rattle.atom_tree.proofs.Cases.{header-long, header-none, header-cut, header-whole}
 use borrow.Author.Needs.{needs}
-use Rattle.atom_tree.proofs.read_atom_header.Statement.{statement}
-use Rattle.atom_tree.proofs.read_atom_header.Tie as tie
-use Rattle.atom_tree.proofs.read_atom_header.Reads as reads
-use Rattle.atom_tree.proofs.read_atom_header.Lts as lts
-use Rattle.atom_tree.proofs.header_by_size.Reads as header-by-size-reads
+use Rattle.atom_tree.proofs.header.read_atom_header.Statement.{statement}
+use Rattle.atom_tree.proofs.header.read_atom_header.Tie as tie
 
 returns : tie.Need-returns
 returns c = header-long _ _ (c .if1 .taken)

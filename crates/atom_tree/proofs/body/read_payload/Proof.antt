@@ -8,12 +8,8 @@ use Rattle.atom_tree.specs.Told.{toldPayload}
 use Rattle.atom_tree.proofs.Enums.{no-body}
 use Rattle.atom_tree.proofs.Headers.{declared-fits}
 use borrow.Author.Needs.{needs}
-use Rattle.atom_tree.proofs.read_payload.Statement.{statement}
-use Rattle.atom_tree.proofs.read_payload.Tie as tie
-use Rattle.atom_tree.proofs.read_payload.Reads as reads
-use Rattle.atom_tree.proofs.read_payload.Lts as lts
-use Rattle.atom_tree.proofs.declared_payload.Reads as declared-payload-reads
-use Rattle.atom_tree.proofs.present_payload.Reads as present-payload-reads
+use Rattle.atom_tree.proofs.body.read_payload.Statement.{statement}
+use Rattle.atom_tree.proofs.body.read_payload.Tie as tie
 
 declared-payload-requires : tie.Need-declared-payload-requires
 declared-payload-requires c κs = search needs

@@ -1,12 +1,10 @@
+-- 55, then done at or past a known end; else the child at the place.
 use mathlib.Core.Path.{ap, _∙_}
 use Rattle.atom_tree.specs.Told.{parentEnd}
 use Rattle.atom_tree.proofs.Cases.{child-long, child-unknown, child-done, child-before}
 use borrow.Author.Needs.{needs}
-use Rattle.atom_tree.proofs.next_child.Statement.{statement}
-use Rattle.atom_tree.proofs.next_child.Tie as tie
-use Rattle.atom_tree.proofs.next_child.Reads as reads
-use Rattle.atom_tree.proofs.next_child.Lts as lts
-use Rattle.atom_tree.proofs.child_at.Reads as child-at-reads
+use Rattle.atom_tree.proofs.children.next_child.Statement.{statement}
+use Rattle.atom_tree.proofs.children.next_child.Tie as tie
 
 returns : tie.Need-returns
 returns c = let a = c .before .before .args in child-long (a .s .now) (a .at) (parentEnd (a .end)) (c .if1 .taken)
@@ -28,8 +26,11 @@ returns-2 c = let a = c .before .before .before .before .before .before .args in
     child-done (a .s .now) (a .at) (parentEnd (a .end)) (c .before .before .before .before .if1 .left) (c .before .before .end .given .0 .0) (ap parentEnd (c .before .before .end .given .1)) (c .if2 .taken)
 
 returns-3 : tie.Need-returns-3
-returns-3 c = let a = c .before .before .before .before .before .before .before .args in
-    c .child-at .ensures ∙ child-before (a .s .now) (a .at) (parentEnd (a .end)) (c .before .before .before .before .before .if1 .left) (c .before .before .before .end .given .0 .0) (ap parentEnd (c .before .before .before .end .given .1)) (c .before .if2 .left)
+returns-3 c =
+    let bound = c .before .before .before in
+    let a = bound .before .before .before .before .args in
+    let limit = bound .end .given in
+    c .child-at .ensures ∙ child-before (a .s .now) (a .at) (parentEnd (a .end)) (bound .before .before .if1 .left) (limit .0 .0) (ap parentEnd (limit .1)) (c .before .if2 .left)
 
 returns-4 : tie.Need-returns-4
 returns-4 c = let a = c .before .before .before .before .before .args in

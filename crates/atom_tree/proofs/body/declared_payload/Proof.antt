@@ -1,14 +1,12 @@
+-- By the header reader's answer; a sound header's size covers the header, so the difference is there.
 use mathlib.Core.Path.{_≡_, refl, ap, sym, _∙_}
 use Rattle.atom_tree.specs.Atom.{declaredAt}
 use Rattle.atom_tree.specs.Told.{toldHeader}
 use Rattle.atom_tree.proofs.Enums.{is-nothing}
 use Rattle.atom_tree.proofs.Headers.{header-sound}
 use borrow.Author.Needs.{needs}
-use Rattle.atom_tree.proofs.declared_payload.Statement.{statement}
-use Rattle.atom_tree.proofs.declared_payload.Tie as tie
-use Rattle.atom_tree.proofs.declared_payload.Reads as reads
-use Rattle.atom_tree.proofs.declared_payload.Lts as lts
-use Rattle.atom_tree.proofs.read_atom_header.Reads as read-atom-header-reads
+use Rattle.atom_tree.proofs.body.declared_payload.Statement.{statement}
+use Rattle.atom_tree.proofs.body.declared_payload.Tie as tie
 
 read-atom-header-requires : tie.Need-read-atom-header-requires
 read-atom-header-requires c κs = search needs
@@ -31,7 +29,10 @@ enum-known-total : tie.Need-enum-known-total
 enum-known-total c = search needs
 
 sub-t9 : tie.Need-sub-t9
-sub-t9 c = let k = header-sound _ _ (sym (c .before .before .before .before .before .before .before .read-atom-header .ensures) ∙ ap toldHeader (c .before .before .before .before .before .read .given .1)) in (rw (c .before .before .total .given .1) at (k .ends)) .0
+sub-t9 c =
+    let bound = c .before .before .before .before .before in
+    let k = header-sound _ _ (sym (bound .before .before .read-atom-header .ensures) ∙ ap toldHeader (bound .read .given .1)) in
+    (rw (c .before .before .total .given .1) at (k .ends)) .0
 
 enum-told : tie.Need-enum-told
 enum-told c = search needs

@@ -1,14 +1,12 @@
+-- By the size and the parent's end; the sum fits since the header is sound.
 use mathlib.Core.Path.{ap, _∙_}
 use native.Mathlib.Omega.{arith}
 use Rattle.atom_tree.specs.Atom.{Ends}
 use Rattle.atom_tree.specs.Told.{sizeOf, parentEnd, headerOf}
 use Rattle.atom_tree.proofs.Cases.{child-sized, child-open}
 use borrow.Author.Needs.{needs}
-use Rattle.atom_tree.proofs.child_of.Statement.{statement}
-use Rattle.atom_tree.proofs.child_of.Tie as tie
-use Rattle.atom_tree.proofs.child_of.Reads as reads
-use Rattle.atom_tree.proofs.child_of.Lts as lts
-use Rattle.atom_tree.proofs.child_inside.Reads as child-inside-reads
+use Rattle.atom_tree.proofs.children.child_of.Statement.{statement}
+use Rattle.atom_tree.proofs.children.child_of.Tie as tie
 
 enum-known-size : tie.Need-enum-known-size
 enum-known-size c = search needs

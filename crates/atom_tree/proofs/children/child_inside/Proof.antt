@@ -1,10 +1,8 @@
 use borrow.Author.Tests.{lt-ltb, le-ltb}
 use mathlib.Core.Path.{refl}
 use borrow.Author.Needs.{needs}
-use Rattle.atom_tree.proofs.child_inside.Statement.{statement}
-use Rattle.atom_tree.proofs.child_inside.Tie as tie
-use Rattle.atom_tree.proofs.child_inside.Reads as reads
-use Rattle.atom_tree.proofs.child_inside.Lts as lts
+use Rattle.atom_tree.proofs.children.child_inside.Statement.{statement}
+use Rattle.atom_tree.proofs.children.child_inside.Tie as tie
 
 enum-known-end : tie.Need-enum-known-end
 enum-known-end c = search needs

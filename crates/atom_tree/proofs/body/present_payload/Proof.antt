@@ -1,9 +1,7 @@
 use borrow.Author.Tests.{lt-ltb, le-ltb}
 use borrow.Author.Needs.{needs}
-use Rattle.atom_tree.proofs.present_payload.Statement.{statement}
-use Rattle.atom_tree.proofs.present_payload.Tie as tie
-use Rattle.atom_tree.proofs.present_payload.Reads as reads
-use Rattle.atom_tree.proofs.present_payload.Lts as lts
+use Rattle.atom_tree.proofs.body.present_payload.Statement.{statement}
+use Rattle.atom_tree.proofs.body.present_payload.Tie as tie
 
 returns : tie.Need-returns
 returns c = simp (lt-ltb _ _ (c .if1 .taken))
