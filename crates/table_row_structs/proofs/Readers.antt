@@ -1,6 +1,6 @@
 -- What the readers of a lent slice of rows share: the slice and its token, and the calls of `row_count`, `row_at` and `rows_read`.
 -- The slice is Copy: a call is given one copy of what it owns, and the other is kept.
-use Rattle.table_row_structs.proofs.Walking.{_≡_, refl, ℕ, _<_, _^_, List, [], _∷_, length, URA, Ty, named, imm, w64, tyInt, tyRef, Val, vint, SProp, ent, sep, id⊢, exE, snd∗, Lft, Share, Fml, ftrue, flft, Memory, Routine, Heap, Env, Calls, Loops, Atoms, sem, Fun, fact, Given, Item, ‵, raw, runs, _⊛_, ⋆, _$_, _∵_, !, qed, move, drop, use0, use1, use2, split, join, fjoin, frame, done, FmC, RattleType, owns, Is, pointee, uint-makes, uint-tells, usize, RefT, sliceTy, sliceVal, ShrSlice, shr-slice-copy, owned, nothing, Contract, Triple, ensured, lasts, tripleOf, says}
+use Rattle.base_walk.proofs.Walking.{_≡_, refl, ℕ, _<_, _^_, List, [], _∷_, length, URA, Ty, named, imm, w64, tyInt, tyRef, Val, vint, SProp, ent, sep, id⊢, exE, snd∗, Lft, Share, Fml, ftrue, flft, Memory, Routine, Heap, Env, Calls, Loops, Atoms, sem, Fun, fact, Given, Item, ‵, raw, runs, _⊛_, ⋆, _$_, _∵_, !, qed, move, drop, use0, use1, use2, split, join, fjoin, frame, done, FmC, RattleType, owns, Is, pointee, uint-makes, uint-tells, usize, RefT, sliceTy, sliceVal, ShrSlice, shr-slice-copy, owned, nothing, Contract, Triple, ensured, lasts, tripleOf, says}
 use lib.ListN.{getD}
 use mir.Syntax.{Place, Opd as Operand, Body as Code, seq, call}
 use types.Kit.{Post, Seq, lands}
@@ -8,7 +8,7 @@ use types.Run.{Opds}
 use denote.Struct.Laws as LL
 use Rattle.table_row_structs.specs.Records.{noRow, readCount}
 use Rattle.table_row_structs.specs.declared.SampleToGroupEntry.{SampleToGroupEntry}
-use Rattle.table_row_structs.proofs.Calls.{Heard, Known, calls-give}
+use Rattle.base_walk.proofs.Calls.{Heard, Known, calls-give}
 use Rattle.table_row_structs.proofs.SampleToGroupEntry as T
 use Rattle.table_row_structs.proofs.SampleToGroupEntry.Laws as T′
 use Rattle.table_row_structs.proofs.row_count as count

@@ -1,5 +1,5 @@
 -- A walk of the MIR of `covered_samples`. After k turns the sum is that of the first k rows.
-use Rattle.table_row_structs.proofs.Walking.{_≡_, refl, sym, _∙_, ap, subst, ℕ, _+_, _*_, _-_, _<_, _≤_, _^_, zero-le, List, [], _∷_, length, URA, fullShare, named, w64, tyBool, Val, vint, SProp, ent, emp, via, fst∗, id⊢, exE, snd∗, Lft, Share, ftrue, fat, froom, fdies, Memory, Routine, Heap, Out, Env, afterSeq, afterBlock, Calls, Loops, Wp, atReturn, WpFn, Tables, afterTurn, Atoms, sem, Fun, fact, givenOf, tables, tablesOf, Given, Item, ‵, raw, runs, anyQ, atRet, Sq, ⋆, _$_, _∵_, !, qed, by, move, drop, use0, join, rewrite, fsplit, fjoin, suffices, frame, done, whole, sub, look-in, look, store, init, forget, stop, fld, from, load, lit, of-opd, un, bin, and-then, no-more, assigns, assigns-last, first, skips, jumps, blocks, branches, land, returns, enter, alloc1, alloc0, params1, pass1, pass0, free1, free0, exec, Below, again, loops, FmC, fmOf, WpFn-mono, owns, Is, uint-makes, u64, usize, RefT, plain, ShrSlice, slice-vals, shr-slice-tells, owned, nothing, Contract, Triple, ensured, lasts, onEntry, Meets, tripleOf, entered, cited, says, Stays, stay-none-slice, walkOf, goes-none-slice, Walks, ends-at, walked, walk-meets, yes, le-antisymm, add-one-dec, arith, WellFounded, InvImage·wf, Nat·lt-wfRel, ltb→lt, nltb→le, lit<}
+use Rattle.base_walk.proofs.Walking.{_≡_, refl, sym, _∙_, ap, subst, ℕ, _+_, _*_, _-_, _<_, _≤_, _^_, zero-le, List, [], _∷_, length, URA, fullShare, named, w64, tyBool, Val, vint, SProp, ent, emp, via, fst∗, id⊢, exE, snd∗, Lft, Share, ftrue, fat, froom, fdies, Memory, Routine, Heap, Out, Env, afterSeq, afterBlock, Calls, Loops, Wp, atReturn, WpFn, Tables, afterTurn, Atoms, sem, Fun, fact, givenOf, tables, tablesOf, Given, Item, ‵, raw, runs, anyQ, atRet, Sq, ⋆, _$_, _∵_, !, qed, by, move, drop, use0, join, rewrite, fsplit, fjoin, suffices, frame, done, whole, sub, look-in, look, store, init, forget, stop, fld, from, load, lit, of-opd, un, bin, and-then, no-more, assigns, assigns-last, first, skips, jumps, blocks, branches, land, returns, enter, alloc1, alloc0, params1, pass1, pass0, free1, free0, exec, Below, again, loops, FmC, fmOf, WpFn-mono, owns, Is, uint-makes, u64, usize, RefT, plain, ShrSlice, slice-vals, shr-slice-tells, owned, nothing, Contract, Triple, ensured, lasts, onEntry, Meets, tripleOf, entered, cited, says, Stays, stay-none-slice, walkOf, goes-none-slice, Walks, ends-at, walked, walk-meets, yes, le-antisymm, add-one-dec, arith, WellFounded, InvImage·wf, Nat·lt-wfRel, ltb→lt, nltb→le, lit<}
 use lib.ListN.{getD}
 use denote.Struct.Laws as LL
 use denote.Enum.Laws as EL
@@ -9,8 +9,8 @@ use Rattle.table_rows.proofs.Covered as Cov
 use Rattle.table_rows.proofs.Covered.Laws as Cov′
 use Rattle.table_row_structs.specs.Records.{noRow, readCount, orTooMany, totalIn}
 use Rattle.table_row_structs.specs.declared.SampleToGroupEntry.{SampleToGroupEntry}
-use Rattle.table_row_structs.proofs.Calls.{Heard, calls-hear}
-use Rattle.table_row_structs.proofs.Pieces.{behind}
+use Rattle.base_walk.proofs.Calls.{Heard, calls-hear}
+use Rattle.base_walk.proofs.Pieces.{behind}
 use Rattle.table_row_structs.proofs.Readers.{Entry, word, slice, Count, At, Read, val, Own, Tok, calls-count, calls-at, calls-read}
 use Rattle.table_row_structs.proofs.Sums.{read-within, sumTo, sum-none, sum-next, total-told}
 use Rattle.table_row_structs.proofs.SampleToGroupEntry as T

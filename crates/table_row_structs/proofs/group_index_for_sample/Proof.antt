@@ -1,5 +1,5 @@
 -- A walk of the MIR of `group_index_for_sample`. The state at a turn is the lookup itself; no row is left to look at once its end is found.
-use Rattle.table_row_structs.proofs.Walking.{_≡_, refl, sym, _∙_, subst, ℕ, _-_, _<_, _^_, List, [], _∷_, length, URA, fullShare, named, w64, tyBool, Val, vint, SProp, ent, emp, via, fst∗, id⊢, exE, snd∗, Lft, Share, ftrue, fat, froom, fdies, Memory, Routine, Heap, Out, Env, afterSeq, afterBlock, Calls, Loops, Wp, atReturn, WpFn, Tables, afterTurn, Atoms, sem, Fun, fact, givenOf, tables, tablesOf, Given, Item, ‵, raw, runs, anyQ, atRet, Sq, ⋆, _$_, _∵_, !, qed, by, move, drop, use0, join, fsplit, fjoin, suffices, frame, done, whole, sub, look-in, look, store, init, forget, stop, fld, from, load, bin, and-then, no-more, assigns, first, skips, jumps, blocks, branches, land, returns, enter, alloc1, alloc0, params1, pass1, pass0, free1, free0, exec, Below, again, loops, FmC, fmOf, WpFn-mono, owns, Is, uint-makes, usize, RefT, plain, ShrSlice, slice-vals, shr-slice-tells, owned, nothing, Contract, Triple, ensured, lasts, onEntry, Meets, tripleOf, entered, cited, says, Stays, stay-none, stay-none-slice, walkOf, goes-none, goes-none-slice, Walks, ends-at, walked, walk-meets, yes, arith, WellFounded, InvImage·wf, Nat·lt-wfRel, ltb→lt, nltb→le}
+use Rattle.base_walk.proofs.Walking.{_≡_, refl, sym, _∙_, subst, ℕ, _-_, _<_, _^_, List, [], _∷_, length, URA, fullShare, named, w64, tyBool, Val, vint, SProp, ent, emp, via, fst∗, id⊢, exE, snd∗, Lft, Share, ftrue, fat, froom, fdies, Memory, Routine, Heap, Out, Env, afterSeq, afterBlock, Calls, Loops, Wp, atReturn, WpFn, Tables, afterTurn, Atoms, sem, Fun, fact, givenOf, tables, tablesOf, Given, Item, ‵, raw, runs, anyQ, atRet, Sq, ⋆, _$_, _∵_, !, qed, by, move, drop, use0, join, fsplit, fjoin, suffices, frame, done, whole, sub, look-in, look, store, init, forget, stop, fld, from, load, bin, and-then, no-more, assigns, first, skips, jumps, blocks, branches, land, returns, enter, alloc1, alloc0, params1, pass1, pass0, free1, free0, exec, Below, again, loops, FmC, fmOf, WpFn-mono, owns, Is, uint-makes, usize, RefT, plain, ShrSlice, slice-vals, shr-slice-tells, owned, nothing, Contract, Triple, ensured, lasts, onEntry, Meets, tripleOf, entered, cited, says, Stays, stay-none, stay-none-slice, walkOf, goes-none, goes-none-slice, Walks, ends-at, walked, walk-meets, yes, arith, WellFounded, InvImage·wf, Nat·lt-wfRel, ltb→lt, nltb→le}
 use lib.ListN.{getD}
 use types.Run.{land-last}
 use denote.Struct.Laws as LL
@@ -15,8 +15,8 @@ use Rattle.table_row_structs.specs.Records.{noRow, readCount, orTooMany,
 use Rattle.table_row_structs.specs.Steps.{searchFrom, passed}
 use Rattle.table_row_structs.specs.declared.SampleToGroupEntry.{SampleToGroupEntry}
 use Rattle.table_row_structs.specs.declared.Search.{Search}
-use Rattle.table_row_structs.proofs.Calls.{Heard, Known, calls-hear, calls-give, calls-give-last}
-use Rattle.table_row_structs.proofs.Pieces.{behind}
+use Rattle.base_walk.proofs.Calls.{Heard, Known, calls-hear, calls-give, calls-give-last}
+use Rattle.base_walk.proofs.Pieces.{behind}
 use Rattle.table_row_structs.proofs.Readers.{Entry, word, slice, Count, At, Read, val, Own, Tok, calls-count, calls-at, calls-read}
 use Rattle.table_row_structs.proofs.Searching.{Seeks, seeks-first, seeks-passed, seeks-end, read-if, passed-nearer}
 use Rattle.table_row_structs.proofs.SampleToGroupEntry as T

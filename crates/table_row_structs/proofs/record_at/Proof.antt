@@ -1,3 +1,4 @@
+-- The two numbers of a pair are those of its record (`Copying`).
 use mathlib.Core.Path.{sym}
 use Rattle.table_row_structs.proofs.Copying.{entry-at}
 use borrow.Author.Needs.{needs}

@@ -1,5 +1,5 @@
 -- A walk of the MIR of `row_at`. One copy of what the slice owns is looked into for the row; the other is what the caller has back.
-use Rattle.table_row_structs.proofs.Walking.{refl, sym, ℕ, _<_, _^_, List, [], _∷_, length, URA, fullShare, named, w64, tyPtr, Val, vint, vptr, SProp, ent, sep, Lft, GName, Share, Fml, flft, fat, Memory, Routine, Heap, WpFn, Tables, Atoms, sem, Fun, givenOf, tables, tablesOf, Given, Item, ‵, _⊛_, ⋆, _$_, _∵_, !, qed, by, move, keep, drop, use1, split, join, rewrite, fsplit, fjoin, suffices, frame, done, whole, sub, look-in, look, look-raw, init, forget, stop, hop, fld, from, load, lit, of-opd, bin, assigns, returns, enter, alloc1, alloc0, params1, pass1, pass0, free1, free0, WpFn-mono, owns, Is, shows, uint-vals, uint-tells, usize, RefT, plain, sliceVal, ShrSlice, Room, slice-vals, shr-slice-tells, shr-slice-copy, owned, nothing, Vals, onEntry, Meets, tripleOf, entered, says, needs, Stays, stay-none, stay-none-slice, walkOf, goes-none, goes-none-slice, Walks, ends-at, walked, walk-meets, yes, place-is, elem-out, elem-back, looks-slice, shuts-slice, arith}
+use Rattle.base_walk.proofs.Walking.{refl, sym, ℕ, _<_, _^_, List, [], _∷_, length, URA, fullShare, named, w64, tyPtr, Val, vint, vptr, SProp, ent, sep, Lft, GName, Share, Fml, flft, fat, Memory, Routine, Heap, WpFn, Tables, Atoms, sem, Fun, givenOf, tables, tablesOf, Given, Item, ‵, _⊛_, ⋆, _$_, _∵_, !, qed, by, move, keep, drop, use1, split, join, rewrite, fsplit, fjoin, suffices, frame, done, whole, sub, look-in, look, look-raw, init, forget, stop, hop, fld, from, load, lit, of-opd, bin, assigns, returns, enter, alloc1, alloc0, params1, pass1, pass0, free1, free0, WpFn-mono, owns, Is, shows, uint-vals, uint-tells, usize, RefT, plain, sliceVal, ShrSlice, Room, slice-vals, shr-slice-tells, shr-slice-copy, owned, nothing, Vals, onEntry, Meets, tripleOf, entered, says, needs, Stays, stay-none, stay-none-slice, walkOf, goes-none, goes-none-slice, Walks, ends-at, walked, walk-meets, yes, place-is, elem-out, elem-back, looks-slice, shuts-slice, arith}
 use lib.ListN.{getD}
 use denote.Struct.Laws as LL
 use Rattle.table_row_structs.specs.Records.{noRow}

@@ -1,5 +1,5 @@
 -- A walk of the MIR of `row_count`. The count stands beside the pointer; no row is looked at.
-use Rattle.table_row_structs.proofs.Walking.{refl, ℕ, _<_, _^_, List, [], _∷_, length, URA, named, w64, Val, vint, SProp, ent, emp, via, fst∗, Lft, Share, Memory, Routine, Heap, WpFn, Tables, Atoms, Fun, givenOf, tables, tablesOf, Given, Item, ‵, ⋆, _$_, _∵_, !, qed, by, move, suffices, frame, done, whole, sub, look-in, look, init, forget, stop, fld, from, load, of-opd, assigns, returns, enter, alloc1, alloc0, params1, pass1, pass0, free1, free0, WpFn-mono, owns, Is, uint-makes, usize, RefT, plain, ShrSlice, slice-vals, shr-slice-tells, owned, onEntry, Meets, tripleOf, entered, says, Stays, stay-none-slice, walkOf, goes-none-slice, Walks, ends-at, walked, walk-meets, yes}
+use Rattle.base_walk.proofs.Walking.{refl, ℕ, _<_, _^_, List, [], _∷_, length, URA, named, w64, Val, vint, SProp, ent, emp, via, fst∗, Lft, Share, Memory, Routine, Heap, WpFn, Tables, Atoms, Fun, givenOf, tables, tablesOf, Given, Item, ‵, ⋆, _$_, _∵_, !, qed, by, move, suffices, frame, done, whole, sub, look-in, look, init, forget, stop, fld, from, load, of-opd, assigns, returns, enter, alloc1, alloc0, params1, pass1, pass0, free1, free0, WpFn-mono, owns, Is, uint-makes, usize, RefT, plain, ShrSlice, slice-vals, shr-slice-tells, owned, onEntry, Meets, tripleOf, entered, says, Stays, stay-none-slice, walkOf, goes-none-slice, Walks, ends-at, walked, walk-meets, yes}
 use Rattle.table_row_structs.specs.declared.SampleToGroupEntry.{SampleToGroupEntry}
 use Rattle.table_row_structs.proofs.Readers.{Entry, val, Tok}
 use Rattle.table_row_structs.proofs.row_count.Key.{name as #key}

@@ -1,5 +1,5 @@
 -- A walk of the MIR of `set_row`. The slice is opened, the row at its place is taken out and written, and the slice is closed at the list with the new row.
-use Rattle.table_row_structs.proofs.Walking.{refl, sym, ap, subst, ℕ, _<_, _^_, List, [], _∷_, length, URA, fullShare, named, w64, tyPtr, Val, vint, vptr, vunit, SProp, ent, Lft, GName, Share, ftrue, fsep, flft, fat, fobs, fbor, Memory, Routine, Heap, WpFn, Tables, Atoms, Fun, givenOf, tables, tablesOf, Given, Item, ‵, _⊛_, ⋆, _$_, _∵_, !, qed, by, move, keep, drop, split, join, rewrite, fsplit, fjoin, feqI, suffices, frame, done, whole, sub, look-in, look, store-raw, init, forget, stop, hop, fld, from, load, lit, unit-lit, of-opd, bin, assigns, returns, enter, alloc1, alloc0, params1, pass1, pass0, free1, free0, WpFn-mono, owns, Is, shows, uint-vals, uint-tells, usize, RefT, plain, sliceVal, MutSlice, Room, heres, codedHoleys, at-slice, slice-vals, mut-slice-tells, owned, nothing, Vals, onEntry, Meets, tripleOf, entered, says, needs, Stays, stay-none, stay-slice, walkOf, goes-none, goes-slice, Walks, ends-at, walked, walk-meets, yes, place-is, elem-out, elem-put, opens-slice, closes-slice, Held, pureI, arith}
+use Rattle.base_walk.proofs.Walking.{refl, sym, ap, subst, ℕ, _<_, _^_, List, [], _∷_, length, URA, fullShare, named, w64, tyPtr, Val, vint, vptr, vunit, SProp, ent, Lft, GName, Share, ftrue, fsep, flft, fat, fobs, fbor, Memory, Routine, Heap, WpFn, Tables, Atoms, Fun, givenOf, tables, tablesOf, Given, Item, ‵, _⊛_, ⋆, _$_, _∵_, !, qed, by, move, keep, drop, split, join, rewrite, fsplit, fjoin, feqI, suffices, frame, done, whole, sub, look-in, look, store-raw, init, forget, stop, hop, fld, from, load, lit, unit-lit, of-opd, bin, assigns, returns, enter, alloc1, alloc0, params1, pass1, pass0, free1, free0, WpFn-mono, owns, Is, shows, uint-vals, uint-tells, usize, RefT, plain, sliceVal, MutSlice, Room, heres, codedHoleys, at-slice, slice-vals, mut-slice-tells, owned, nothing, Vals, onEntry, Meets, tripleOf, entered, says, needs, Stays, stay-none, stay-slice, walkOf, goes-none, goes-slice, Walks, ends-at, walked, walk-meets, yes, place-is, elem-out, elem-put, opens-slice, closes-slice, Held, pureI, arith}
 use lib.ListN.{set, length-set}
 use denote.Struct.Laws as LL
 use Rattle.table_row_structs.specs.Records.{noRow}

@@ -1,5 +1,5 @@
 -- A walk of the MIR of `write_rows`. The slice is opened before the loop and closed behind it; after k turns its first k rows are the first k records.
-use Rattle.table_row_structs.proofs.Walking.{_≡_, refl, sym, ap, subst, ℕ, _+_, _-_, _<_, _≤_, _^_, zero-le, List, [], _∷_, length, URA, fullShare, Ty, named, imm, mut, w32, w64, tyInt, tyBool, tyPtr, tyRef, Val, vint, vptr, SProp, ent, sep, emp, via, fst∗, id⊢, exE, snd∗, Lft, GName, Share, Fml, ftrue, flft, fat, froom, fdies, fobs, fauth, fbor, fobor, Memory, Routine, Heap, Out, Env, afterSeq, afterBlock, Calls, Loops, Wp, atReturn, WpFn, Tables, afterTurn, Atoms, sem, Fun, fact, givenOf, tables, tablesOf, Given, Item, ‵, raw, runs, anyQ, atRet, Sq, _⊛_, ⋆, _$_, _∵_, !, qed, by, move, drop, use0, use1, use2, split, join, rewrite, fsplit, fjoin, suffices, frame, done, whole, sub, look-in, look, store, store-raw, init, forget, stop, hop, fld, from, load, lit, of-opd, bin, and-then, no-more, assigns, assigns-last, first, skips, jumps, blocks, branches, land, returns, enter, alloc1, alloc0, params1, pass1, pass0, free1, free0, exec, Below, again, loops, FmC, fmOf, WpFn-mono, owns, Is, shows, pointee, uint-makes, u32, usize, RefT, plain, sliceTy, sliceVal, MutSlice, ShrSlice, Room, heres, codedHoleys, at-slice, slice-vals, mut-slice-tells, shr-slice-tells, shr-slice-copy, owned, nothing, Contract, Triple, ensured, lasts, Vals, onEntry, Meets, tripleOf, entered, cited, says, Stays, stay-none-slice, stay-slice, walkOf, goes-none-slice, goes-slice, Walks, ends-at, walked, walk-meets, yes, row, place-is, elem-out, elem-put, opens-slice, closes-slice, Held, pureI, le-antisymm, add-one-dec, arith, WellFounded, InvImage·wf, Nat·lt-wfRel, ltb→lt, nltb→le, lit<}
+use Rattle.base_walk.proofs.Walking.{_≡_, refl, sym, ap, subst, ℕ, _+_, _-_, _<_, _≤_, _^_, zero-le, List, [], _∷_, length, URA, fullShare, Ty, named, imm, mut, w32, w64, tyInt, tyBool, tyPtr, tyRef, Val, vint, vptr, SProp, ent, sep, emp, via, fst∗, id⊢, exE, snd∗, Lft, GName, Share, Fml, ftrue, flft, fat, froom, fdies, fobs, fauth, fbor, fobor, Memory, Routine, Heap, Out, Env, afterSeq, afterBlock, Calls, Loops, Wp, atReturn, WpFn, Tables, afterTurn, Atoms, sem, Fun, fact, givenOf, tables, tablesOf, Given, Item, ‵, raw, runs, anyQ, atRet, Sq, _⊛_, ⋆, _$_, _∵_, !, qed, by, move, drop, use0, use1, use2, split, join, rewrite, fsplit, fjoin, suffices, frame, done, whole, sub, look-in, look, store, store-raw, init, forget, stop, hop, fld, from, load, lit, of-opd, bin, and-then, no-more, assigns, assigns-last, first, skips, jumps, blocks, branches, land, returns, enter, alloc1, alloc0, params1, pass1, pass0, free1, free0, exec, Below, again, loops, FmC, fmOf, WpFn-mono, owns, Is, shows, pointee, uint-makes, u32, usize, RefT, plain, sliceTy, sliceVal, MutSlice, ShrSlice, Room, heres, codedHoleys, at-slice, slice-vals, mut-slice-tells, shr-slice-tells, shr-slice-copy, owned, nothing, Contract, Triple, ensured, lasts, Vals, onEntry, Meets, tripleOf, entered, cited, says, Stays, stay-none-slice, stay-slice, walkOf, goes-none-slice, goes-slice, Walks, ends-at, walked, walk-meets, yes, row, place-is, elem-out, elem-put, opens-slice, closes-slice, Held, pureI, le-antisymm, add-one-dec, arith, WellFounded, InvImage·wf, Nat·lt-wfRel, ltb→lt, nltb→le, lit<}
 use lib.ListN.{getD}
 use denote.Struct.Laws as LL
 use denote.Enum.Laws as EL
@@ -8,9 +8,9 @@ use Rattle.table_row_structs.specs.Records.{noRow, structsOf, copyInto}
 use Rattle.table_row_structs.specs.Steps.{acceptedIn, toldWritten}
 use Rattle.table_row_structs.specs.declared.SampleToGroupEntry.{SampleToGroupEntry}
 use Rattle.table_row_structs.specs.declared.Written.{Written}
-use Rattle.table_row_structs.proofs.Calls.{Heard, calls-hear, calls-give}
+use Rattle.base_walk.proofs.Calls.{Heard, calls-hear, calls-give}
 use Rattle.table_row_structs.proofs.Copying.{upTo, upTo-length, upTo-next, accepted-within, copies}
-use Rattle.table_row_structs.proofs.Pieces.{behind}
+use Rattle.base_walk.proofs.Pieces.{behind}
 use Rattle.table_row_structs.proofs.Readers.{Entry, word, usize-known, entry-known}
 use Rattle.table_row_structs.proofs.SampleToGroupEntry as T
 use Rattle.table_row_structs.proofs.SampleToGroupEntry.Laws as T′

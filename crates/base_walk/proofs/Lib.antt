@@ -1,0 +1,3 @@
+pub mod Calls
+pub mod Pieces
+pub mod Walking
