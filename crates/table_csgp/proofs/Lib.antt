@@ -1,5 +1,3 @@
-pub mod Tails
-pub mod Passing
-pub mod Filling
+pub mod Ahead
 pub mod Parse
 pub mod Lookup

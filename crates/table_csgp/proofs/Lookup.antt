@@ -10,15 +10,15 @@ use Rattle.table_rows.specs.Pattern.{Pattern, samplesOf, coveredBy, indexOf}
 use Rattle.table_replay.specs.Replay.{replay}
 use Rattle.table_rows.proofs.Front.{lookup-front}
 use Rattle.table_replay.proofs.Replay.{replay-index, replay-covered}
-use Rattle.table_patterns.specs.Csgp.{csgp}
-use Rattle.table_csgp.specs.Table.{tableOf, parseCsgp}
+use Rattle.table_csgp_head.specs.Csgp.{csgp}
+use Rattle.table_csgp.specs.Table.{parseCsgp, csgpTable}
 use Rattle.base_fields.proofs.Answers.{given-inj, given-first}
 
 module _ (s : List ℕ) (room : ℕ) {t : Table} {ps : List Pattern} (accepted : parseCsgp s room ≡ given t) (patterns : csgp s ≡ given ps) where
   rows-of : (out : List Row) × (replay room [] (samplesOf ps) ≡ given out) × (t .rows ≡ reverse out)
   rows-of =
       let e = rw patterns at accepted in
-      let o = given-first (replay room [] (samplesOf ps)) (λ rows. given (tableOf s rows)) e in
+      let o = given-first (replay room [] (samplesOf ps)) (λ rows. given (csgpTable s rows)) e in
       (o .0, o .1, ap (λ (x : Table). x .rows) (sym (given-inj (o .2))))
 
   pub csgp-index : (k : ℕ) → indexAt (t .rows) k ≡ indexOf ps k

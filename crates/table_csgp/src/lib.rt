@@ -2,15 +2,15 @@
 mod fill;
 mod measure;
 
-ghost use mathlib.Core.Path.{_≡_};
 ghost use Rattle.table_rows.specs.Row.{recordsIn};
 ghost use Rattle.table_rows.specs.Found.{GivesTable};
 ghost use Rattle.table_csgp.specs.Table.{parseCsgp};
 use base_ids::RowNumber;
+use fill::fill;
 use measure::Measured;
 use measure::measure;
-use table_patterns::layout::ReadLayout;
-use table_patterns::layout::csgp_layout;
+use table_csgp_head::ReadCsgp;
+use table_csgp_head::read_csgp;
 use table_rows::ParsedTable;
 use table_rows::SampleToGroup;
 
@@ -18,18 +18,18 @@ use table_rows::SampleToGroup;
 pub fn parse_csgp(s: &[u8], rows: &mut [RowNumber]) -> ParsedTable
     ensures { λ r. ⌜ GivesTable (parseCsgp (now (s .entry)) (recordsIn (now (rows .entry)))) (now (rows .entry)) (now (rows .exit)) r ⌝ }
 {
-    let layout = match csgp_layout(s) {
-        ReadLayout::Layout(layout) => layout,
-        ReadLayout::Refused(n) => return ParsedTable::Refused(n),
+    let head = match read_csgp(s) {
+        ReadCsgp::Head(head) => head,
+        ReadCsgp::Refused(n) => return ParsedTable::Refused(n),
     };
-    let entry_count = match measure(s, layout, rows.len() / 2) {
+    let entry_count = match measure(s, head, rows.len() / 2) {
         Measured::Rows(count) => count,
         Measured::Refused(n) => return ParsedTable::Refused(n),
     };
-    fill::fill(s, layout, rows);
+    fill(s, head, rows);
     ParsedTable::Table(SampleToGroup {
-        grouping_type: layout.grouping_type,
-        grouping_type_parameter: layout.grouping_type_parameter,
+        grouping_type: head.grouping_type,
+        grouping_type_parameter: head.grouping_type_parameter,
         entry_count,
     })
 }

@@ -1,21 +1,18 @@
 // The replay of a payload's samples, to find its refusal and how many rows it makes.
 ghost use mathlib.Core.Path.{_≡_};
-ghost use Prim.Native.Nat.{_<_};
 ghost use lib.ListN.{length};
 ghost use Rattle.base_fields.specs.Answer.{given, andThen};
-ghost use Rattle.table_patterns.specs.Layout.{Laid};
-ghost use Rattle.table_csgp.specs.Replay.{rowsFor, toldMeasured};
-use table_patterns::layout::CsgpLayout;
-use table_patterns::layout::first_pattern;
-use table_patterns::layout::next_pattern;
-use table_patterns::layout::pair_at;
-use table_patterns::stretch::stretch_at;
-use table_replay::enter::Entered;
+ghost use Rattle.table_csgp_head.specs.Head.{CsgpLaid};
+ghost use Rattle.table_csgp.specs.Rows.{rowsFor, toldMeasured};
+use table_csgp_head::CsgpHead;
+use table_csgp_head::first_pattern;
+use table_csgp_head::pattern_at;
+use table_csgp_head::patterns_behind;
+use table_patterns::run::run_at;
 use table_replay::enter::Tail;
-use table_replay::enter::enter_run;
-use table_replay::periods::Mark;
-use table_replay::periods::Passed;
-use table_replay::periods::pass_periods;
+use table_replay::step::Stepped;
+use table_replay::step::pattern_start;
+use table_replay::step::replay_step;
 
 pub enum Measured {
     Rows(usize),
@@ -23,8 +20,8 @@ pub enum Measured {
 }
 
 // How many rows the samples fill, or the refusal of the first sample that cannot be entered.
-pub(crate) fn measure(s: &[u8], layout: CsgpLayout, room: usize) -> Measured
-    requires { ⌜ Laid (now s) layout ⌝ }
+pub(crate) fn measure(s: &[u8], head: CsgpHead, room: usize) -> Measured
+    requires { ⌜ CsgpLaid (now s) head ⌝ }
     ensures { λ r. ⌜ toldMeasured r ≡ andThen (rowsFor (now (s .entry)) room) (λ rows. given (length rows)) ⌝ }
 {
     let mut told: u32 = 0;
@@ -33,44 +30,26 @@ pub(crate) fn measure(s: &[u8], layout: CsgpLayout, room: usize) -> Measured
         count: 0,
         index: 0,
     };
-    let mut here = first_pattern(layout);
+    let mut here = first_pattern(head);
     'replay: while 0 < here.left {
-        let pair = pair_at(s, layout, here.pair);
-        let mut mark = Mark { sample: 0, tail };
-        let mut k: u32 = 0;
-        while k < pair.count {
-            let run = stretch_at(
-                s,
-                layout.index_width,
-                here.indices,
-                pair.length,
-                k,
-                pair.count,
-            );
-            match enter_run(tail, room, run.count, run.index) {
-                Entered::Next(next) => tail = next,
-                Entered::Over => {
+        let pattern = pattern_at(s, head, here);
+        let mut state = pattern_start(tail);
+        while state.sample < pattern.count {
+            let run = run_at(s, pattern, state.sample);
+            match replay_step(pattern, state, run, room) {
+                Stepped::Next(next, _stood) => state = next,
+                Stepped::Over => {
                     told = 28;
                     break 'replay;
                 }
-                Entered::Full => {
-                    told = 29;
-                    break 'replay;
-                }
-            }
-            match pass_periods(mark, tail, k + run.count, pair.length, pair.count, room) {
-                Passed::On(next, sample, place) => {
-                    tail = next;
-                    k = sample;
-                    mark = place;
-                }
-                Passed::Full => {
+                Stepped::Full => {
                     told = 29;
                     break 'replay;
                 }
             }
         }
-        here = next_pattern(layout, here, pair.length);
+        tail = state.tail;
+        here = patterns_behind(head, here, pattern.length);
     }
     if told != 0 {
         return Measured::Refused(told);

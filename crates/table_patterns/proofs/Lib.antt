@@ -1,5 +1,2 @@
-pub mod Widths
-pub mod Patterns
-pub mod Check
-pub mod Stretches
-pub mod Walk
+pub mod Indices
+pub mod Runs

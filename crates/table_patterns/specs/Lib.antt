@@ -1,4 +1,2 @@
-pub mod Csgp
-pub mod Layout
-pub mod Stretch
-pub mod Stream
+pub mod Place
+pub mod Run

@@ -1,4 +1,50 @@
-// The patterns of a csgp payload (document 01, part 4): where they stand, their indices by stretches, and their samples as a stream of runs.
-pub mod layout;
-pub mod stream;
-pub mod stretch;
+// A pattern of a sample table in its payload: the index at a position, and its samples by runs of one index. An sbgp row is a pattern of
+// length 1.
+pub mod run;
+
+ghost use mathlib.Core.Path.{_≡_};
+ghost use Prim.Native.Nat.{_+_, _≤_, _<_, min};
+ghost use lib.ListN.{getD};
+ghost use Rattle.base_fields.specs.Number.{fieldBound};
+ghost use Rattle.table_patterns.specs.Place.{indexField, bitCount, patternIn, Stands};
+use base_ids::DescriptionIndex;
+use base_ids::SampleCount;
+
+pub struct PatternAt {
+    // How many indices it has.
+    pub length: u32,
+    // How many samples it covers.
+    pub count: SampleCount,
+    // The bits of an index, and the bit place of the first one.
+    pub width: u32,
+    pub indices: usize,
+}
+
+// The index at a bit place.
+pub fn read_index(s: &[u8], at: usize, width: u32) -> u32
+    requires { ⌜ (width ≤ 32) × (at + width ≤ bitCount (now s)) ⌝ }
+    ensures { λ r. ⌜ (r ≡ indexField width (now (s .entry)) at) × (r < fieldBound) ⌝ }
+{
+    base_fields::read_bits(s, at, width)
+}
+
+// The index at a position, counted from 0.
+pub fn index_at(s: &[u8], pattern: PatternAt, position: u32) -> DescriptionIndex
+    requires { ⌜ (Stands (now s) pattern) × (position < pattern .length) ⌝ }
+    ensures { λ r. ⌜ r .0 ≡ getD (patternIn (now (s .entry)) pattern .indices) position 0 ⌝ }
+{
+    let width = pattern.width;
+    let at = pattern.indices + (width as usize) * (position as usize);
+    DescriptionIndex(read_index(s, at, width))
+}
+
+// How many positions are used by a sample: the others' indices mean nothing.
+pub fn used_positions(pattern: PatternAt) -> u32
+    ensures { λ r. ⌜ r ≡ min (pattern .length) (pattern .count) ⌝ }
+{
+    if pattern.length < pattern.count {
+        pattern.length
+    } else {
+        pattern.count
+    }
+}

@@ -11,33 +11,27 @@ use lib.ListN.{length, drop, set, getD, length-append, length-reverse}
 use lib.Seq.{drop-cons, set-at, getD-append-add}
 use Rattle.base_fields.specs.Answer.{choose}
 use Rattle.table_rows.specs.Row.{Row, flat}
-use Rattle.table_rows.proofs.Rows.{flat-append}
+use Rattle.table_rows.proofs.Rows.{flat-length, flat-append}
 use Rattle.table_replay.proofs.Repeating.{stacked}
-use Rattle.table_replay.specs.Records.{copied}
+use Rattle.table_replay.specs.Records.{putRow, copied, Written}
 use Rattle.table_replay.proofs.Entering.{below}
 
-flat-length : (rows : List Row) → length (flat rows) ≡ 2 * length rows
-unfolding flat
-flat-length [] = refl
-flat-length (r ∷ rows) = rw (flat-length rows) (omega arith)
-
-pub flat-last : (r : Row) (rs : List Row) → flat (reverse (r ∷ rs)) ≡ flat (reverse rs) ++ r .count ∷ r .index ∷ []
+flat-last : (r : Row) (rs : List Row) → flat (reverse (r ∷ rs)) ≡ flat (reverse rs) ++ r .count ∷ r .index ∷ []
 unfolding flat
 flat-last r rs = rw (reverse-cons, flat-append)
 
 pub front-length : (rows : List Row) → length (flat (reverse rows)) ≡ 2 * length rows
 front-length rows = flat-length (reverse rows) ∙ rw (length-reverse rows) refl
 
--- the run l, which was e, after rows were written in front
-abbrev pub Written : List ℕ → List ℕ → List Row → Type 0
-Written e l rows = l ≡ flat (reverse rows) ++ drop (2 * length rows) e
-
 module _ (e l : List ℕ) where
+  written-front : (rows : List Row) → Written e l rows → l ≡ flat (reverse rows) ++ drop (2 * length rows) e
+  written-front rows w = w ∙ rw (length-reverse rows) refl
+
   -- two numbers behind the rows that a run leaves below the last one
   abbrev pub Place : List Row → Type 0
   Place rows = (a : ℕ) × (b : ℕ) × (l ≡ flat (reverse rows) ++ a ∷ b ∷ drop (2 * suc (length rows)) e)
 
-  pub place-new : (rows : List Row) → Written e l rows → 2 * length rows + 2 ≤ length e → Place rows
+  place-new : (rows : List Row) → Written e l rows → 2 * length rows + 2 ≤ length e → Place rows
   place-new rows w h =
       let m = 2 * length rows in
       let n : suc (suc m) ≡ 2 * suc (length rows) = omega arith in
@@ -45,11 +39,11 @@ module _ (e l : List ℕ) where
       let b : suc m < length e = omega arith in (
         getD e m 0,
         getD e (suc m) 0,
-        w ∙ rw (drop-cons e m 0 a, drop-cons e (suc m) 0 b, n) refl,
+        written-front rows w ∙ rw (drop-cons e m 0 a, drop-cons e (suc m) 0 b, n) refl,
       )
 
   place-last : (r : Row) (rs : List Row) → Written e l (r ∷ rs) → Place rs
-  place-last r rs w = (r .count, r .index, w ∙ rw (flat-last r rs, append-assoc))
+  place-last r rs w = (r .count, r .index, written-front (r ∷ rs) w ∙ rw (flat-last r rs, append-assoc))
 
   pub place-below : (rows : List Row) (i : ℕ) → Written e l rows → 2 * length (below rows i) + 2 ≤ length e → Place (below rows i)
   place-below [] i w h = place-new [] w h
@@ -59,7 +53,7 @@ module _ (e l : List ℕ) where
       by true h = place-last r rs w
       by false h = place-new (r ∷ rs) w h
 
-  pub put : (rows : List Row) (x : Row) → Place rows → Written e (set (set l (2 * length rows) (x .count)) (2 * length rows + 1) (x .index)) (x ∷ rows)
+  pub put : (rows : List Row) (x : Row) → Place rows → Written e (putRow (length rows) (x .count) (x .index) l) (x ∷ rows)
   put rows x (a, b, w) =
       let f = flat (reverse rows) in
       let m = 2 * length rows in
@@ -70,10 +64,10 @@ module _ (e l : List ℕ) where
       ap (λ (k : List ℕ). set k (m + 1) (x .index)) one
       ∙ set-at (f ++ x .count ∷ []) b d (x .index) (m + 1) n
       ∙ append-assoc f (x .count ∷ []) (x .index ∷ d)
-      ∙ rw (flat-last x rows) (sym (append-assoc f (x .count ∷ x .index ∷ []) d))
+      ∙ rw (length-reverse (x ∷ rows), flat-last x rows) (sym (append-assoc f (x .count ∷ x .index ∷ []) d))
 
 -- one turn of the loop that copies, and its end
-pub copied-one : (i j end : ℕ) (l : List ℕ) {m : List ℕ} → 0 < i → i ≤ j → j < end → m ≡ set (set l (2 * (j - 1)) (getD l (2 * (i - 1)) 0)) (2 * (j - 1) + 1) (getD l (2 * (i - 1) + 1) 0) →
+pub copied-one : (i j end : ℕ) (l : List ℕ) {m : List ℕ} → 0 < i → i ≤ j → j < end → m ≡ putRow (j - 1) (getD l (2 * (i - 1)) 0) (getD l (2 * (i - 1) + 1) 0) l →
     copied (end - j) (i - 1) (j - 1) l ≡ copied (end - (j + 1)) (i + 1 - 1) (j + 1 - 1) m
 unfolding copied
 copied-one i j end l p q h e =
@@ -113,7 +107,7 @@ module _ (above : List Row) (x : Row) (others : List Row) (rest : List ℕ) wher
 module _ (e : List ℕ) where
   -- a row copied behind the others
   copy-one : (l : List ℕ) (rows above : List Row) (x : Row) (others : List Row) → rows ≡ above ++ x ∷ others → Place e l rows → 2 * length rows + 4 ≤ length e →
-      Place e (set (set l (2 * length rows) (getD l (2 * length others) 0)) (2 * length rows + 1) (getD l (2 * length others + 1) 0)) (x ∷ rows)
+      Place e (putRow (length rows) (getD l (2 * length others) 0) (getD l (2 * length others + 1) 0) l) (x ∷ rows)
   copy-one l rows above x others q p h =
       let w : l ≡ flat (reverse (above ++ x ∷ others)) ++ p .0 ∷ p .1 ∷ drop (2 * suc (length rows)) e = p .2 ∙ ap (λ (rs : List Row). flat (reverse rs) ++ p .0 ∷ p .1 ∷ drop (2 * suc (length rows)) e) q in
       let c : getD l (2 * length others) 0 ≡ x .count = ap (λ (k : List ℕ). getD k (2 * length others) 0) w ∙ front-count above x others _ in

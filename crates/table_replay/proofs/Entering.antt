@@ -1,6 +1,5 @@
 -- What a run of samples of one index does to the rows.
 use mathlib.Core.Path.{_≡_, refl}
-use mathlib.Core.Bool.{Bool, true, false}
 use Prim.Native.Nat.{ℕ, _+_, _≤_, _<_}
 use native.Mathlib.Numerals.{add-one}
 use native.Mathlib.Omega.{arith}
@@ -12,7 +11,7 @@ use Rattle.base_fields.specs.Answer.{Answer, given, none, refused, choose}
 use Rattle.table_rows.specs.Row.{Row}
 use Rattle.base_ids.specs.Limits.{countLimit}
 use Rattle.table_replay.specs.Replay.{replay}
-use Rattle.table_replay.proofs.Replay.{Begins, replay-join, replay-over, replay-begin, replay-no-room}
+use Rattle.table_replay.proofs.Replay.{either, Begins, replay-join, replay-over, replay-begin, replay-no-room}
 use Rattle.table_replay.specs.Enter.{tailOf, enterRun, joinRun, beginRun}
 use Rattle.table_replay.specs.declared.enter.Tail.{Tail}
 
@@ -34,10 +33,6 @@ abbrev pub Told : ℕ → List Row → ℕ → ℕ → Answer Tail → Type 0
 Told room rows n i (given t) = (replay room rows (replicate n i) ≡ given (withRun rows n i)) × (t ≡ tailOf (withRun rows n i)) × (t .count ≤ countLimit)
 Told room rows n i none = ⊥
 Told room rows n i (refused code) = replay room rows (replicate n i) ≡ refused code
-
-either : {A : Type 0} (P : A → Type 0) (b : Bool) {x y : A} → (b ≡ true → P x) → (b ≡ false → P y) → P (choose b x y)
-either P true t f = t refl
-either P false t f = f refl
 
 module _ (room n i : ℕ) (pos : 0 < n) (fits : n ≤ countLimit) where
   -- a new row

@@ -3,3 +3,5 @@ pub mod Passing
 pub mod Copying
 pub mod Replay
 pub mod Repeating
+pub mod Stepping
+pub mod Within

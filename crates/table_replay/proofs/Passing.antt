@@ -15,11 +15,12 @@ use Rattle.table_rows.proofs.Samples.{samplesFrom-add}
 use Rattle.table_replay.proofs.Replay.{replay-append}
 use Rattle.table_replay.proofs.Repeating.{fit, Onto, replay-local, samples-again, stacked, replay-periods}
 use Rattle.table_replay.specs.Enter.{tailOf}
-use Rattle.table_replay.specs.Periods.{Alike, Repeats, repeated}
+use Rattle.table_replay.specs.Periods.{Repeats, repeated, AlikePeriod}
+use Rattle.table_replay.specs.Step.{Marked}
 use Rattle.table_replay.specs.declared.enter.Tail.{Tail}
 use Rattle.table_replay.specs.declared.periods.Mark.{Mark}
 
-pub alike-of : {mark : Mark} {tail : Tail} {k len count n : ℕ} → Repeats mark tail k len count n → (n ≡ 0 → ⊥) → Alike mark tail k len
+pub alike-of : {mark : Mark} {tail : Tail} {k len count n : ℕ} → Repeats mark tail k len count n → (n ≡ 0 → ⊥) → AlikePeriod mark tail k len
 alike-of r h = ⊎-elim (λ e. absurd (h e)) (λ a. a) (r .alike)
 
 pub repeated-none : (mark : Mark) (tail : Tail) → tail ≡ repeated mark tail 0
@@ -31,13 +32,6 @@ enough {room} {rows} {more} {n} l p h = let g = le-div-iff-mul-le p .0 h in omeg
 
 pub too-many : {room rows more n : ℕ} → rows ≤ room → 0 < more → (room - rows) / more < n → room < rows + n * more
 too-many {room} {rows} {more} {n} l p h = let g = div-lt-iff-lt-mul p .0 h in omega arith
-
--- a mark: the rows there, of which the pattern's samples since made the present rows
-pub record Marked (p : Pattern) (room k : ℕ) (rows : List Row) (mark : Mark) : Type 0 where
-  pub before : List Row
-  pub standing : mark .tail ≡ tailOf before
-  pub behind : mark .sample ≤ k
-  pub since : replay room before (samplesFrom p (mark .sample) (k - mark .sample)) ≡ given rows
 
 -- n periods behind the rows x ∷ below: each leaves x the last row, with those rows below it that the one since the mark left
 pub record Growth (room : ℕ) (mark : Mark) (tail : Tail) (n : ℕ) (xs : List ℕ) (x : Row) (below : List Row) : Type 0 where
@@ -93,7 +87,7 @@ module _ (p : Pattern) (room k len count : ℕ) (t : len ≡ length (p .indices)
 
   -- periods alike
   growth-alike : (mark : Mark) (tail : Tail) (n : ℕ) (x : Row) (below : List Row) → length (x ∷ below) ≤ room → tail ≡ tailOf (x ∷ below) → Marked p room k (x ∷ below) mark →
-      Alike mark tail k len → Growth room mark tail n (samplesFrom p k (n * len)) x below
+      AlikePeriod mark tail k len → Growth room mark tail n (samplesFrom p k (n * len)) x below
   growth-alike mark tail n x below h e m a = by (m .before) (m .standing) (m .since)
     where
       by : (before : List Row) → mark .tail ≡ tailOf before → replay room before (samplesFrom p (mark .sample) (k - mark .sample)) ≡ given (x ∷ below) →

@@ -10,6 +10,7 @@ use mathlib.Core.List.{List, [], _∷_, _++_, append-assoc}
 use lib.Dec.{leb, eqb}
 use lib.ListN.{length, length-append}
 use Rattle.base_fields.specs.Answer.{Answer, given, refused, choose}
+use Rattle.base_fields.proofs.Answers.{refused-given}
 use Rattle.table_rows.specs.Row.{Row}
 use Rattle.table_rows.specs.Pattern.{Pattern, indexIn, samplesFrom}
 use Rattle.base_ids.specs.Limits.{countLimit}
@@ -30,9 +31,6 @@ pub record Local (r : Row) (below : List Row) (xs : List ℕ) (out : List Row) :
   pub more : List Row
   pub rows : out ≡ last ∷ more ++ below
   pub onto : Onto r xs last more
-
-refused-not : {A : Type 0} {n : ℕ} {x : A} → _≡_ {A = Answer A} (refused n) (given x) → ⊥
-refused-not e = let z : _≡_ {A = ℕ} 0 1 = cc in omega arith
 
 abbrev Others : ℕ → List ℕ → List Row → Type 0
 Others room xs out = (r : Row) (below : List Row) → replay room (r ∷ below) xs ≡ given out → Local r below xs out
@@ -70,12 +68,12 @@ replay-local (i ∷ xs) room r below {out} e = by (λ next below' g. replay-loca
     by others true t =
         elim (decLt (r .count) countLimit) [
           | yes l ↦ joins others (eqb-true _ _ t) l
-          | no l ↦ absurd (refused-not (rw (enter-over room r below (eqb-true _ _ t) (omega arith)) at e))
+          | no l ↦ absurd (refused-given (rw (enter-over room r below (eqb-true _ _ t) (omega arith)) at e))
         ]
     by others false t =
         elim (decLt (length (r ∷ below)) room) [
           | yes l ↦ begins others (eqb-false _ _ t) l
-          | no l ↦ absurd (refused-not (rw (enter-no-room room (r ∷ below) i (eqb-false _ _ t) (omega arith)) at e))
+          | no l ↦ absurd (refused-given (rw (enter-no-room room (r ∷ below) i (eqb-false _ _ t) (omega arith)) at e))
         ]
 
 -- a pattern's samples come again after its length

@@ -1,6 +1,5 @@
 -- The replay (document 01, part 4): what runs of one index do to the rows, and that the rows tell each sample's index.
 use mathlib.Core.Path.{_≡_, refl, sym, _∙_}
-use mathlib.Core.Logic.{_⊎_, inl, inr}
 use mathlib.Core.Bool.{Bool, true, false}
 use Prim.Native.Nat.{ℕ, zero, suc, _+_, _≤_, _<_}
 use native.Mathlib.Nat.{add-zero}
@@ -76,25 +75,19 @@ unfolding replay
 replay-no-room room rows i zero b h p = absurd (omega arith)
 replay-no-room room rows i (suc n) b h p = rw (enter-no-room room rows i b h)
 
--- no row's count passes the limit
-abbrev pub Counts : List Row → Type 0
-Counts [] = Unit
-Counts (r ∷ rs) = (r .count ≤ countLimit) × Counts rs
-
 -- what holds of the rows `out` after samples were entered into `rows`
 record Entered (room : ℕ) (rows : List Row) (is : List ℕ) (out : List Row) : Type 0 where
   expands : expand (reverse out) ≡ expand (reverse rows) ++ is
   rooms : length rows ≤ room → length out ≤ room
-  counts : Counts rows → Counts out
 
 -- the same for every answer
 abbrev Told : ℕ → List Row → List ℕ → Answer (List Row) → Type 0
 Told room rows is (given out) = Entered room rows is out
 Told room rows is none = ⊥
-Told room rows is (refused n) = (n ≡ 28) ⊎ (n ≡ 29)
+Told room rows is (refused n) = Unit
 
 -- both ways of a choice
-either : {A : Type 0} (P : A → Type 0) (b : Bool) {x y : A} → (b ≡ true → P x) → (b ≡ false → P y) → P (choose b x y)
+pub either : {A : Type 0} (P : A → Type 0) (b : Bool) {x y : A} → (b ≡ true → P x) → (b ≡ false → P y) → P (choose b x y)
 either P true t f = t refl
 either P false t f = f refl
 
@@ -107,20 +100,19 @@ joined room r rs i e h =
     record {
       expands = rw (expand-last, expand-last r rs, append-assoc, e, replicate-append-replicate (r .count) 1 i);
       rooms = λ l. l;
-      counts = λ c. (omega arith, c .1);
     }
 
 begun : (room : ℕ) (rows : List Row) (i : ℕ) → length rows < room → Entered room rows (i ∷ []) (record { count = 1; index = i } ∷ rows)
-begun room rows i h = record { expands = expand-last _ rows; rooms = λ l. h; counts = λ c. (omega arith, c) }
+begun room rows i h = record { expands = expand-last _ rows; rooms = λ l. h }
 
 enter-told : (room : ℕ) (rows : List Row) (i : ℕ) → Told room rows (i ∷ []) (enter room rows i)
 unfolding enter
-enter-told room [] i = either (Told room [] (i ∷ [])) (leb room 0) (λ t. inr refl) (λ f. begun room [] i (leb-false _ _ f))
+enter-told room [] i = either (Told room [] (i ∷ [])) (leb room 0) (λ t. tt) (λ f. begun room [] i (leb-false _ _ f))
 enter-told room (r ∷ rs) i =
     let P = Told room (r ∷ rs) (i ∷ []) in
     either P (eqb (r .index) i)
-    (λ e. either P (leb countLimit (r .count)) (λ t. inl refl) (λ f. joined room r rs i (eqb-true _ _ e) (leb-false _ _ f)))
-    (λ e. either P (leb room (length (r ∷ rs))) (λ t. inr refl) (λ f. begun room (r ∷ rs) i (leb-false _ _ f)))
+    (λ e. either P (leb countLimit (r .count)) (λ t. tt) (λ f. joined room r rs i (eqb-true _ _ e) (leb-false _ _ f)))
+    (λ e. either P (leb room (length (r ∷ rs))) (λ t. tt) (λ f. begun room (r ∷ rs) i (leb-false _ _ f)))
 
 -- one sample, then the others
 onward : {room : ℕ} {rows next : List Row} {i : ℕ} (is : List ℕ) → Entered room rows (i ∷ []) next → (a : Answer (List Row)) → Told room next is a → Told room rows (i ∷ is) a
@@ -128,13 +120,12 @@ onward is one (given out) t =
     record {
       expands = t .expands ∙ rw (one .expands, append-assoc) refl;
       rooms = λ l. t .rooms (one .rooms l);
-      counts = λ c. t .counts (one .counts c);
     }
 onward is one (refused n) t = t
 
 replay-told : (room : ℕ) (rows : List Row) (is : List ℕ) → Told room rows is (replay room rows is)
 unfolding replay
-replay-told room rows [] = record { expands = sym (append-nil _); rooms = λ l. l; counts = λ c. c }
+replay-told room rows [] = record { expands = sym (append-nil _); rooms = λ l. l }
 replay-told room rows (i ∷ is) = step (λ next. replay-told room next is) (enter room rows i) (enter-told room rows i)
   where
     step : ((next : List Row) → Told room next is (replay room next is)) → (a : Answer (List Row)) → Told room rows (i ∷ []) a → Told room rows (i ∷ is) (andThen a (λ next. replay room next is))
@@ -151,14 +142,8 @@ module _ (room : ℕ) (rows : List Row) (is : List ℕ) where
   pub replay-room : {out : List Row} → replay room rows is ≡ given out → length rows ≤ room → length out ≤ room
   replay-room e = entered e .rooms
 
-  pub replay-counts : {out : List Row} → replay room rows is ≡ given out → Counts rows → Counts out
-  replay-counts e = entered e .counts
-
   pub replay-never-none : replay room rows is ≡ none → ⊥
   replay-never-none e = rw e at (replay-told room rows is)
-
-  pub replay-code : {n : ℕ} → replay room rows is ≡ refused n → (n ≡ 28) ⊎ (n ≡ 29)
-  replay-code e = rw e at (replay-told room rows is)
 
 -- the rows of a table's samples tell the index that its pattern gives each sample, and cover as many
 module _ (room : ℕ) (ps : List Pattern) {out : List Row} (e : replay room [] (samplesOf ps) ≡ given out) where

@@ -2,3 +2,4 @@ pub mod Enter
 pub mod Periods
 pub mod Records
 pub mod Replay
+pub mod Step

@@ -8,7 +8,7 @@ use Rattle.table_replay.specs.declared.periods.Passed.{Passed}
 use Rattle.table_replay.specs.declared.periods.Passed.the-variants as passed
 
 -- the samples since the mark are one period, which left the last row as it found it, with more rows below it
-pub record Alike (mark : Mark) (tail : Tail) (k length : ℕ) : Type 0 where
+pub record AlikePeriod (mark : Mark) (tail : Tail) (k length : ℕ) : Type 0 where
   pub period : k ≡ mark .sample + length
   pub some : 0 < mark .tail .rows
   pub more : mark .tail .rows < tail .rows
@@ -17,7 +17,7 @@ pub record Alike (mark : Mark) (tail : Tail) (k length : ℕ) : Type 0 where
 
 -- n periods that are left and repeat the one since the mark
 pub record Repeats (mark : Mark) (tail : Tail) (k length count n : ℕ) : Type 0 where
-  pub alike : (n ≡ 0) ⊎ Alike mark tail k length
+  pub alike : (n ≡ 0) ⊎ AlikePeriod mark tail k length
   pub within : k + n * length ≤ count
 
 -- the rows n periods later, each of which adds as many as the one since the mark

@@ -3,3 +3,4 @@
 pub mod enter;
 pub mod periods;
 pub mod records;
+pub mod step;

@@ -1,15 +1,15 @@
 // The records of a lent run of numbers that rows are written to.
 ghost use mathlib.Core.Path.{_≡_};
 ghost use Prim.Native.Nat.{_+_, _-_, _*_, _≤_, _<_};
-ghost use lib.ListN.{length, set};
-ghost use Rattle.table_replay.specs.Records.{copied};
+ghost use lib.ListN.{length};
+ghost use Rattle.table_replay.specs.Records.{putRow, copied};
 use base_ids::RowNumber;
 use base_ids::SampleCount;
 
 // Writes a row at record number `at`.
 pub fn put_row(rows: &mut [RowNumber], at: usize, count: SampleCount, index: u32)
     requires { ⌜ 2 * at + 2 ≤ length (now rows) ⌝ }
-    ensures { λ r. ⌜ now (rows .exit) ≡ set (set (now (rows .entry)) (2 * at) count) (2 * at + 1) index ⌝ }
+    ensures { λ r. ⌜ now (rows .exit) ≡ putRow at count index (now (rows .entry)) ⌝ }
 {
     rows[2 * at] = count;
     rows[2 * at + 1] = index;

@@ -4,7 +4,7 @@ use mathlib.Core.List.{List, map}
 use Prim.Native.Nat.{ℕ, _*_, _≤_}
 use lib.ListN.{length, getD, take}
 use Rattle.base_fields.specs.Answer.{given}
-use Rattle.table_rows.specs.Row.{Row, Table, covered, indexAt, filled, tableRows, lookup}
+use Rattle.table_rows.specs.Row.{Table, covered, indexAt, filled, tableRows, lookup}
 use Rattle.base_ids.specs.Limits.{recordLimit}
 use Rattle.table_rows.specs.Pattern.{single, indexOf, coveredBy}
 use Rattle.table_rows.proofs.Front.{lookup-front}

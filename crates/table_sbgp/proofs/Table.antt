@@ -1,30 +1,44 @@
--- Laws of the table in an sbgp payload: from its row count on, and its rows one by one.
+-- Laws of the table in an sbgp payload: behind its front, and its rows one by one.
 use mathlib.Core.Path.{_≡_, refl, ap, _∙_}
 use Prim.Native.Nat.{ℕ, zero, suc, _+_, _*_, _<_, _≤_}
 use native.Mathlib.Omega.{arith}
 use mathlib.Core.List.{List, [], _∷_, _++_}
-use lib.Dec.{ltb}
 use lib.ListN.{length, drop, set, length-append}
 use borrow.Author.Tests.{lt-ltb, le-ltb}
-use Rattle.base_fields.specs.Answer.{given, refuseIf}
+use Rattle.base_fields.specs.Answer.{refused}
 use Rattle.base_fields.specs.Number.{beAt}
 use Rattle.table_rows.specs.Row.{Row, flat, recordsIn}
 use Rattle.table_rows.specs.Found.{GivesTable}
 use Rattle.table_rows.specs.declared.ParsedTable.the-variants as parsed
 use Rattle.table_rows.proofs.Rows.{front-put}
-use Rattle.table_sbgp.specs.Sbgp.{sbgp, readRows, parseSbgp}
-use Rattle.table_sbgp.specs.Layout.{Counted, Lays}
-use Rattle.table_sbgp.specs.declared.SbgpLayout.{SbgpLayout}
-use Rattle.table_sbgp.specs.declared.Layout.the-variants as layout
+use Rattle.table_front.specs.Front.{countOf}
+use Rattle.table_front.specs.Told.{FrontOf}
+use Rattle.table_front.specs.declared.TableFront.{TableFront}
+use Rattle.table_front.specs.declared.TableKind.the-variants.{Sbgp}
+use Rattle.table_front.proofs.Fronts.{front-rest}
+use Rattle.table_sbgp.specs.Sbgp.{readRows, rowsPlace, tableIn, sbgp, parseSbgp}
+use Rattle.table_sbgp.specs.Head.{SbgpLaid}
+use Rattle.table_sbgp.specs.declared.SbgpHead.{SbgpHead}
 
--- what is left to check once the parameter is read
-pub counted : (s : List ℕ) (v p : ℕ) → Counted s v p →
-    sbgp s ≡
-    refuseIf (ltb (length s) (p + 4)) 22
-    (refuseIf (ltb (length s) (p + 4 + 8 * beAt 4 s p)) 23
-    (given (record { groupingType = beAt 4 s 4; parameter = v; rows = readRows (beAt 4 s p) s (p + 4) })))
-unfolding sbgp
-counted s v p h = rw (← h .place, ← h .value) (simp (le-ltb _ _ (h .short), le-ltb _ _ (h .typed), le-ltb _ _ (h .there)))
+-- behind its front, a payload has all of its rows or not
+module _ (s : List ℕ) (f : TableFront) (o : FrontOf Sbgp s f) where
+  behind : sbgp s ≡ tableIn s
+  unfolding sbgp
+  behind = front-rest Sbgp s (o .there) (tableIn s)
+
+  pub rows-cut : length s < f .first + 8 * f .count → sbgp s ≡ refused 23
+  rows-cut h = let b : length s < rowsPlace s + 8 * countOf Sbgp s = rw (← (o .first), ← (o .count)) h in behind ∙ simp (lt-ltb _ _ b)
+
+  pub rows-there : f .first + 8 * f .count ≤ length s →
+      SbgpLaid s (record { «grouping_type» = f .«grouping_type»; «grouping_type_parameter» = f .«grouping_type_parameter»; first = f .first; «entry_count» = f .count })
+  rows-there h =
+      let b : rowsPlace s + 8 * countOf Sbgp s ≤ length s = rw (← (o .first), ← (o .count)) h in
+      record {
+        table = behind ∙ rw (o .groupingType, o .parameter, o .count, o .first) (simp (le-ltb _ _ b));
+        first = o .first;
+        inside = h;
+        short = o .there .short;
+      }
 
 abbrev pub rowAt : List ℕ → ℕ → Row
 rowAt s p = record { count = beAt 4 s p; index = beAt 4 s (p + 4) }
@@ -52,26 +66,26 @@ put-next s p n l h =
     let m : length (readRows n s p ++ (rowAt s (p + 8 * n) ∷ [])) ≡ n + 1 = simp (length-append, e) in
     rw (readRows-last n s p) (rw (e, m) at (front-put (readRows n s p) (rowAt s (p + 8 * n)) l (rw e h)))
 
--- what parse_sbgp answers, by the payload's layout
+-- what parse_sbgp answers, by the payload's head
 module _ (s before : List ℕ) where
-  pub refusal : (n : ℕ) → Lays s (layout.Refused n) → GivesTable (parseSbgp s (recordsIn before)) before before (parsed.Refused n)
-  refusal n h = rw (← h .table) (record { answer = refl; rows = refl })
+  pub refusal : (n : ℕ) → sbgp s ≡ refused n → GivesTable (parseSbgp s (recordsIn before)) before before (parsed.Refused n)
+  refusal n h = rw h (record { answer = refl; rows = refl })
 
-  module _ (l : SbgpLayout) (h : Lays s (layout.Layout l)) where
-    pub no-room : recordsIn before < l .«entry_count» → GivesTable (parseSbgp s (recordsIn before)) before before (parsed.Refused 29)
+  module _ (h : SbgpHead) (l : SbgpLaid s h) where
+    pub no-room : recordsIn before < h .«entry_count» → GivesTable (parseSbgp s (recordsIn before)) before before (parsed.Refused 29)
     no-room b =
-        let e = readRows-length (l .«entry_count») s (l .first) in
-        rw (← h .table) (simp (e, lt-ltb _ _ b) (record { answer = refl; rows = refl }))
+        let e = readRows-length (h .«entry_count») s (h .first) in
+        rw (l .table) (simp (e, lt-ltb _ _ b) (record { answer = refl; rows = refl }))
 
-    pub room : (after : List ℕ) → l .«entry_count» ≤ recordsIn before →
-        after ≡ flat (readRows (l .«entry_count») s (l .first)) ++ drop (2 * l .«entry_count») before →
+    pub room : (after : List ℕ) → h .«entry_count» ≤ recordsIn before →
+        after ≡ flat (readRows (h .«entry_count») s (h .first)) ++ drop (2 * h .«entry_count») before →
         GivesTable (parseSbgp s (recordsIn before)) before after
         (parsed.Table
         (record {
-          «grouping_type» = l .«grouping_type»;
-          «grouping_type_parameter» = l .«grouping_type_parameter»;
-          «entry_count» = l .«entry_count»;
+          «grouping_type» = h .«grouping_type»;
+          «grouping_type_parameter» = h .«grouping_type_parameter»;
+          «entry_count» = h .«entry_count»;
         }))
     room after b w =
-        let e = readRows-length (l .«entry_count») s (l .first) in
-        rw (← h .table) (simp (e, le-ltb _ _ b) (record { answer = simp e; rows = simp e w }))
+        let e = readRows-length (h .«entry_count») s (h .first) in
+        rw (l .table) (simp (e, le-ltb _ _ b) (record { answer = simp e; rows = simp e w }))

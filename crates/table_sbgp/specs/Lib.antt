@@ -1,3 +1,2 @@
 pub mod Sbgp
-pub mod Layout
-pub mod Stream
+pub mod Head

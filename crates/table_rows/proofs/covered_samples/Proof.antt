@@ -2,9 +2,6 @@ use borrow.Author.Tests.{lt-ltb, le-ltb}
 use borrow.Author.Needs.{needs}
 use Rattle.table_rows.proofs.covered_samples.Statement.{statement}
 use Rattle.table_rows.proofs.covered_samples.Tie as tie
-use Rattle.table_rows.proofs.covered_samples.Reads as reads
-use Rattle.table_rows.proofs.covered_samples.Lts as lts
-use Rattle.table_rows.proofs.sum_of_counts.Reads as sum-of-counts-reads
 
 returns : tie.Need-returns
 returns c = simp (lt-ltb _ _ (c .if1 .taken))

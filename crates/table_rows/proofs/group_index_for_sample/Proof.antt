@@ -2,9 +2,6 @@ use borrow.Author.Tests.{lt-ltb, le-ltb}
 use borrow.Author.Needs.{needs}
 use Rattle.table_rows.proofs.group_index_for_sample.Statement.{statement}
 use Rattle.table_rows.proofs.group_index_for_sample.Tie as tie
-use Rattle.table_rows.proofs.group_index_for_sample.Reads as reads
-use Rattle.table_rows.proofs.group_index_for_sample.Lts as lts
-use Rattle.table_rows.proofs.index_at.Reads as index-at-reads
 
 returns : tie.Need-returns
 returns c = simp (lt-ltb _ _ (c .if1 .taken))

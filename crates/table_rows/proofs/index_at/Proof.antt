@@ -1,3 +1,4 @@
+-- The loop's invariant: the row that covers the sample is the one that covers what is left of it in the rows not passed.
 use mathlib.Core.Path.{_≡_, refl, sym, _∙_}
 use Prim.Native.Nat.{_-_, _≤_}
 use lib.ListN.{length, drop}
@@ -6,8 +7,6 @@ use Rattle.table_rows.specs.Row.{rowsOf, indexAt}
 use Rattle.table_rows.proofs.Rows.{index-first, index-later, index-end}
 use Rattle.table_rows.proofs.index_at.Statement.{statement}
 use Rattle.table_rows.proofs.index_at.Tie as tie
-use Rattle.table_rows.proofs.index_at.Reads as reads
-use Rattle.table_rows.proofs.index_at.Lts as lts
 
 abbrev Inv-loop : tie.InvT-loop
 Inv-loop rows sample left₀ i₀ left i = (i ≤ length rows) × (indexAt (rowsOf rows) sample ≡ indexAt (rowsOf (drop i rows)) left)

@@ -1,3 +1,4 @@
+-- The loop's invariant: the sum so far and the samples of the rows not passed are all samples; each count adds less than 2^32.
 use mathlib.Core.Path.{_≡_}
 use Prim.Native.Nat.{_+_, _-_, _*_, _≤_}
 use native.Mathlib.Omega.{arith}
@@ -7,8 +8,6 @@ use Rattle.table_rows.specs.Row.{rowsOf, covered}
 use Rattle.table_rows.proofs.Rows.{covered-first, covered-end}
 use Rattle.table_rows.proofs.sum_of_counts.Statement.{statement}
 use Rattle.table_rows.proofs.sum_of_counts.Tie as tie
-use Rattle.table_rows.proofs.sum_of_counts.Reads as reads
-use Rattle.table_rows.proofs.sum_of_counts.Lts as lts
 
 abbrev Inv-loop : tie.InvT-loop
 Inv-loop rows sum₀ i₀ sum i = (i ≤ length rows) × (sum ≤ 4294967296 * i) × (covered (rowsOf rows) ≡ sum + covered (rowsOf (drop i rows)))

@@ -9,9 +9,6 @@ use Rattle.table_sbgp.specs.Sbgp.{readRows}
 use Rattle.table_sbgp.proofs.Table.{put-next}
 use Rattle.table_sbgp.proofs.fill.Statement.{statement}
 use Rattle.table_sbgp.proofs.fill.Tie as tie
-use Rattle.table_sbgp.proofs.fill.Reads as reads
-use Rattle.table_sbgp.proofs.fill.Lts as lts
-use Rattle.base_fields.proofs.read_u32.Reads as read-u32-reads
 
 abbrev Inv-loop : tie.InvT-loop
 Inv-loop s first count rows₀ k₀ rows k = (k ≤ count) × (length rows ≡ length rows₀) × (rows ≡ flat (readRows k s first) ++ drop (2 * k) rows₀)

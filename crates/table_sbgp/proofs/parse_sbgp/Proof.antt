@@ -1,32 +1,28 @@
 use native.Mathlib.Omega.{arith}
+use Rattle.table_sbgp.specs.Head.{SbgpLaid}
 use Rattle.table_sbgp.proofs.Table.{refusal, no-room, room}
 use borrow.Author.Needs.{needs}
 use Rattle.table_sbgp.proofs.parse_sbgp.Statement.{statement}
 use Rattle.table_sbgp.proofs.parse_sbgp.Tie as tie
-use Rattle.table_sbgp.proofs.parse_sbgp.Reads as reads
-use Rattle.table_sbgp.proofs.parse_sbgp.Lts as lts
-use Rattle.table_sbgp.proofs.fill.Reads as fill-reads
-use Rattle.table_sbgp.proofs.sbgp_layout.Reads as sbgp-layout-reads
 
-sbgp-layout-requires : tie.Need-sbgp-layout-requires
-sbgp-layout-requires c κs = search needs
+-- the head that was read
+laid : (c : tie.After-h) → SbgpLaid (c .before .before .before .before .before .args .s .now) (c .h .given .0 .0)
+laid c = rw (c .h .given .1) at (c .before .before .read-sbgp .ensures)
 
-enum-known-l : tie.Need-enum-known-l
-enum-known-l c = search needs
+read-sbgp-requires : tie.Need-read-sbgp-requires
+read-sbgp-requires c κs = search needs
+
+enum-known-h : tie.Need-enum-known-h
+enum-known-h c = search needs
 
 cast-count : tie.Need-cast-count
 cast-count c = search needs
 
 returns : tie.Need-returns
-returns c =
-    let d = c .before .before .before in
-    no-room _ _ _ (rw (d .l .given .1) at (d .before .before .sbgp-layout .ensures)) (c .if1 .taken)
+returns c = no-room _ _ _ (laid (c .before .before .before)) (c .if1 .taken)
 
 fill-requires : tie.Need-fill-requires
-fill-requires c κs =
-    let d = c .before .before .before .before in
-    let h = rw (d .l .given .1) at (d .before .before .sbgp-layout .ensures .place) in
-    (h .inside, omega arith)
+fill-requires c κs = (laid (c .before .before .before .before) .inside, omega arith)
 
 enum-known-n : tie.Need-enum-known-n
 enum-known-n c = search needs
@@ -36,18 +32,19 @@ same-length c = search needs
 
 returns-2 : tie.Need-returns-2
 returns-2 c =
-    let d = c .before .before .before .before .before .before .before in
-    room _ _ _ (rw (d .l .given .1) at (d .before .before .sbgp-layout .ensures)) _ (c .before .before .before .before .if1 .left) (c .before .before .fill .ensures)
+    room _ _ _ (laid (c .before .before .before .before .before .before .before)) _ (c .before .before .before .before .if1 .left) (c .before .before .fill .ensures)
 
 returns-3 : tie.Need-returns-3
-returns-3 c = refusal _ _ _ (rw (c .before .n .given .1) at (c .before .before .before .sbgp-layout .ensures))
+returns-3 c =
+    let read = c .before .before .before in
+    refusal _ _ _ (rw (c .before .n .given .1) at (read .read-sbgp .ensures))
 
 pub parse-sbgp-spec : {M : Type 1} → statement M
 parse-sbgp-spec =
     tie.close
     (tie.spec
-    sbgp-layout-requires
-    enum-known-l
+    read-sbgp-requires
+    enum-known-h
     cast-count
     returns
     fill-requires

@@ -1,59 +1,131 @@
+-- As in `measure`, with the rows so far in front of the run (`Filling`, `FillingWithin`). Within a pattern this is said of whatever the run
+-- was before its first sample was entered. Nothing is refused, since the rows are given.
 use mathlib.Core.Path.{_≡_, refl, ap, sym, subst, _∙_}
-use Prim.Native.Nat.{ℕ, _+_, _-_, _*_, _≤_}
+use Prim.Native.Nat.{ℕ, _-_}
 use native.Mathlib.Omega.{arith}
 use borrow.Author.Needs.{needs}
 use mathlib.Core.List.{List}
 use lib.ListN.{length}
-use Rattle.base_fields.specs.Answer.{given, refused}
-use Rattle.table_rows.specs.Row.{recordsIn}
-use Rattle.table_replay.specs.Enter.{enterRun, toldEntered}
-use Rattle.table_replay.specs.Periods.{GivesPassed}
-use Rattle.table_replay.specs.declared.enter.Entered.{Entered}
-use Rattle.table_replay.specs.declared.enter.Entered.the-variants as entered
-use Rattle.table_replay.specs.declared.periods.Passed.{Passed}
-use Rattle.table_replay.specs.declared.periods.Passed.the-variants as passes
-use Rattle.table_patterns.specs.declared.layout.PatternsAt.{PatternsAt}
 use Rattle.base_fields.proofs.Answers.{refused-given}
-use Rattle.table_patterns.proofs.Walk.{walk-step, walk-end, walk-next, stretch-fits, behind-fits}
-use Rattle.table_csgp.proofs.Tails.{replaying-at}
-use Rattle.table_csgp.proofs.Passing.{periodic-first, turn-refused, turn-fits, turn-full}
-use Rattle.table_csgp.proofs.Filling.{Filling, filling-first, filling-end, Filled, copy-fits, put-fits, filled-turn}
+use Rattle.table_rows.specs.Row.{recordsIn}
+use Rattle.table_patterns.specs.Place.{patternIn}
+use Rattle.table_replay.specs.Step.{NextRun, Steps, Refuses, GivesStep}
+use Rattle.table_replay.specs.declared.step.Stepped.{Stepped}
+use Rattle.table_replay.specs.declared.step.Stepped.the-variants as stepped
+use Rattle.table_replay.proofs.Stepping.{state-room, next-run}
+use Rattle.table_replay.proofs.Within.{Filling, FillingWithin, filling-first, filling-end, filling-in, filling-out, filling-step, within-refused}
+use Rattle.table_csgp_head.specs.Head.{Whole}
+use Rattle.table_csgp_head.specs.declared.PatternsAt.{PatternsAt}
+use Rattle.table_csgp_head.proofs.Ahead.{ahead-step}
+use Rattle.table_csgp.specs.Rows.{rowsFor}
+use Rattle.table_csgp.proofs.Ahead.{coming, behind, Reached, rows-first, reached, none-coming}
 use Rattle.table_csgp.proofs.fill.fill.Statement.{statement}
 use Rattle.table_csgp.proofs.fill.fill.Tie as tie
 
--- whatever the run was that the pattern's turn began with
 abbrev Inv-loop2 : tie.InvT-loop2
-Inv-loop2 s layout rows₀ room tail₀ here pair mark₀ k₀ rows tail mark k = ((e : List ℕ) → Filling s e room (record { here = here; sample = 0 }) tail₀ rows₀ → Filled s e room here k tail mark rows) × (length rows ≡ length rows₀)
+Inv-loop2 s head rows₀ room here pattern state₀ rows state =
+    let Filled = FillingWithin (rowsFor s room) room (patternIn s pattern) (behind s head here pattern) in
+    ((e : List ℕ) → Filled state₀ e rows₀ → Filled state e rows) × (length rows ≡ length rows₀)
 
 abbrev μ-loop2 : tie.MeasureT-loop2
-μ-loop2 s layout rows₀ room tail₀ here pair mark₀ k₀ rows tail mark k = pair .count - k
+μ-loop2 s head rows₀ room here pattern state₀ rows state = pattern .count - state .sample
 
 abbrev Inv-loop : tie.InvT-loop
-Inv-loop s layout rows₀ room tail₀ here₀ rows tail here = Filling s rows₀ room (record { here = here; sample = 0 }) tail rows × (length rows ≡ length rows₀)
+Inv-loop s head rows₀ room tail₀ here₀ rows tail here =
+    Filling (rowsFor s room) room (coming s here) tail rows₀ rows × Whole s here × (length rows ≡ length rows₀)
 
 abbrev μ-loop : tie.MeasureT-loop
-μ-loop s layout rows₀ room tail₀ here₀ rows tail here = here .left
+μ-loop s head rows₀ room tail₀ here₀ rows tail here = here .left
+
+abbrev Reading : Type 0
+Reading = tie.After-pattern-at Inv-loop2 μ-loop2 Inv-loop μ-loop
+
+abbrev In-pattern : Type 0
+In-pattern = tie.At-loop2 Inv-loop2 μ-loop2 Inv-loop μ-loop
 
 abbrev Turn : Type 0
-Turn = tie.After-enter-run Inv-loop2 μ-loop2 Inv-loop μ-loop
+Turn = tie.After-replay-step Inv-loop2 μ-loop2 Inv-loop μ-loop
 
-abbrev Passing : Type 0
-Passing = tie.After-pass-periods Inv-loop2 μ-loop2 Inv-loop μ-loop
+abbrev Going : Type 0
+Going = tie.After-known-told Inv-loop2 μ-loop2 Inv-loop μ-loop
 
-abbrev Copying : Type 0
-Copying = tie.After-copy-rows Inv-loop2 μ-loop2 Inv-loop μ-loop
+abbrev Copied : Type 0
+Copied = tie.After-copy-rows Inv-loop2 μ-loop2 Inv-loop μ-loop
 
--- no run is refused, since the rows are given
-run-taken : (c : Turn) (e : Entered) {code : ℕ} → c .enter-run .result ≡ e → refused code ≡ toldEntered e → ⊥
-run-taken c e w g = refused-given (sym (turn-refused _ _ _ _ _ _ (c .before .before .before .before .loop2 .inv .0 _ (c .before .before .before .before .before .before .before .before .loop .inv .0) .periodic) (c .before .before .before .before .before .before .if1 .taken) _ (c .before .before .before .before .before .before .before .before .before .before .before .before .pre .0 .fixed) _ (c .before .before .before .before .before .pair-at .ensures) (c .before .stretch-at .result) (c .before .stretch-at .ensures) (g ∙ ap toldEntered (sym w) ∙ c .enter-run .ensures)) ∙ c .before .before .before .before .before .before .before .before .before .before .before .before .pre .1 .1)
+abbrev at-loop : Reading → tie.At-loop Inv-loop2 μ-loop2 Inv-loop μ-loop
+at-loop c = c .before .before .before
 
--- the run is entered
-run-entered : (c : Turn) {next : _} → c .enter-run .result ≡ entered.Next next → given next ≡ enterRun (recordsIn (c .before .before .before .before .before .before .before .before .before .before .before .before .args .rows .now)) (c .before .before .before .before .loop2 .tail) (c .before .stretch-at .result .count) (c .before .stretch-at .result .index)
-run-entered c w = ap toldEntered (sym w) ∙ c .enter-run .ensures
+abbrev start : Reading → tie.Start Inv-loop2 μ-loop2 Inv-loop μ-loop
+start c = at-loop c .before .before .before .before
 
--- what passing the periods told
-passed : (c : Passing) (r : Passed) → c .pass-periods .result ≡ r → GivesPassed (c .before .before .before .before .before .before .before .before .before .loop2 .mark) (c .before .before .before .next .given .0 .0) (c .before .before .before .before .before .before .before .before .before .loop2 .k + c .before .before .before .before .before .before .stretch-at .result .count) (c .before .before .before .before .before .before .before .before .before .before .pair-at .result .length) (c .before .before .before .before .before .before .before .before .before .before .pair-at .result .count) (recordsIn (c .before .before .before .before .before .before .before .before .before .before .before .before .before .before .before .before .before .args .rows .now)) r
-passed c r e = subst (λ (x : Passed). GivesPassed (c .before .before .before .before .before .before .before .before .before .loop2 .mark) (c .before .before .before .next .given .0 .0) (c .before .before .before .before .before .before .before .before .before .loop2 .k + c .before .before .before .before .before .before .stretch-at .result .count) (c .before .before .before .before .before .before .before .before .before .before .pair-at .result .length) (c .before .before .before .before .before .before .before .before .before .before .pair-at .result .count) (recordsIn (c .before .before .before .before .before .before .before .before .before .before .before .before .before .before .before .before .before .args .rows .now)) x) e (c .pass-periods .ensures)
+abbrev reading : In-pattern → Reading
+reading c = c .before .before
+
+abbrev in-pattern : Turn → In-pattern
+in-pattern c = c .before .before .before .before .before
+
+abbrev turn : Going → Turn
+turn c = c .before .before .before
+
+-- the pattern that was read
+pattern-reached : (c : Reading) → (let a = start c .args in Reached (a .s .now) (a .head) (at-loop c .loop .here) (c .pattern-at .result))
+pattern-reached c = reached _ _ _ _ (start c .pre .0 .fixed) (c .before .if1 .taken) (at-loop c .loop .inv .1) (c .pattern-at .ensures)
+
+-- the rows within it
+abbrev Filled : In-pattern → Type 0
+Filled c =
+    let n = reading c in
+    let a = start n .args in
+    let room = recordsIn (a .rows .now) in
+    let pattern = n .pattern-at .result in
+    FillingWithin (rowsFor (a .s .now) room) room (patternIn (a .s .now) pattern) (behind (a .s .now) (a .head) (at-loop n .loop .here) pattern) (c .loop2 .state) (a .rows .now) (c .loop2 .rows)
+
+filled : (c : In-pattern) → Filled c
+filled c =
+    let n = reading c in
+    c .loop2 .inv .0 _ (rw (c .before .pattern-start .ensures) (filling-in _ (rw (pattern-reached n .samples) at (at-loop n .loop .inv .0))))
+
+same : (c : In-pattern) → length (c .loop2 .rows) ≡ length (start (reading c) .args .rows .now)
+same c = c .loop2 .inv .1 ∙ at-loop (reading c) .loop .inv .2
+
+-- the run that is read of it
+abbrev Running : Type 0
+Running = tie.After-run-at Inv-loop2 μ-loop2 Inv-loop μ-loop
+
+next : (c : Running) →
+    (let p = c .before .before .before .before in let n = reading p in let pattern = n .pattern-at .result in
+    NextRun (patternIn (start n .args .s .now) pattern) pattern (p .loop2 .state) (c .run-at .result))
+next c = next-run _ _ _ (pattern-reached (reading (c .before .before .before .before)) .stands) (c .run-at .ensures)
+
+-- what the step told
+abbrev Told : Turn → Stepped → Type 0
+Told c r =
+    let n = reading (in-pattern c) in
+    let a = start n .args in
+    GivesStep (patternIn (a .s .now) (n .pattern-at .result)) (recordsIn (a .rows .now)) (in-pattern c .loop2 .state) r
+
+went : (c : Turn) (r : Stepped) → c .replay-step .result ≡ r → Told c r
+went c r e = subst (λ (x : Stepped). Told c x) e (c .replay-step .ensures _ (next (c .before)))
+
+never : (c : Turn) {code : ℕ} →
+    (let n = reading (in-pattern c) in let a = start n .args in
+    Refuses (patternIn (a .s .now) (n .pattern-at .result)) (recordsIn (a .rows .now)) (in-pattern c .loop2 .state) code) → ⊥
+never c f = refused-given (sym (within-refused _ (filled (in-pattern c) .within) f) ∙ start (reading (in-pattern c)) .pre .1 .1)
+
+-- the step on, from the rows so far
+goes : (c : Going) → Told (turn c) (stepped.Next (c .before .next .given .0 .0) (c .before .next .given .0 .1 .0))
+goes c = went (turn c) _ (c .before .next .given .1)
+
+abbrev On : (c : Going) → Type 0
+On c =
+    let p = in-pattern (turn c) in
+    let n = reading p in
+    let a = start n .args in
+    let next = c .before .next .given .0 in
+    Steps (patternIn (a .s .now) (n .pattern-at .result)) (recordsIn (a .rows .now)) (filled p .within .rows) (p .loop2 .state) (next .0) (next .1 .0)
+
+steps : (c : Going) → On c
+steps c = let w = filled (in-pattern (turn c)) .within in goes c .steps (w .rows) (w .state)
 
 first-pattern-requires : tie.Need-first-pattern-requires Inv-loop2 μ-loop2 Inv-loop μ-loop
 first-pattern-requires c κs = search needs
@@ -61,118 +133,108 @@ first-pattern-requires c κs = search needs
 loop-holds : tie.Need-loop-holds Inv-loop2 μ-loop2 Inv-loop μ-loop
 loop-holds c =
     let l = c .before .before .before .pre .0 in
-    (rw (c .first-pattern .ensures) (filling-first _ _ _ _ (l .fixed) (l .patterns .1) (omega arith)), refl)
+    rw (c .first-pattern .ensures) (filling-first _ (rows-first _ _ _ l) (omega arith), l .whole, refl)
 
-pair-at-requires : tie.Need-pair-at-requires Inv-loop2 μ-loop2 Inv-loop μ-loop
-pair-at-requires c κs = (c .before .before .before .before .before .before .pre .0 .fixed, walk-step _ _ (c .before .before .loop .inv .0 .replaying .ahead) (c .if1 .taken) .pairFits)
+pattern-at-requires : tie.Need-pattern-at-requires Inv-loop2 μ-loop2 Inv-loop μ-loop
+pattern-at-requires c κs =
+    let at = c .before .before in
+    let l = at .before .before .before .before .pre .0 in
+    (l .fixed, ahead-step _ _ _ (l .fixed) (c .if1 .taken) (at .loop .inv .1) .pair)
+
+pattern-start-requires : tie.Need-pattern-start-requires Inv-loop2 μ-loop2 Inv-loop μ-loop
+pattern-start-requires c κs = search needs
 
 loop2-holds : tie.Need-loop2-holds Inv-loop2 μ-loop2 Inv-loop μ-loop
-loop2-holds c = (λ e w. record { periodic = periodic-first (w .replaying); written = w .written; records = w .records }, refl)
+loop2-holds c = (λ e w. w, refl)
 
-stretch-at-requires : tie.Need-stretch-at-requires Inv-loop2 μ-loop2 Inv-loop μ-loop
-stretch-at-requires c κs = stretch-fits _ (c .before .before .before .before .before .before .loop .here) (c .before .before .loop2 .k) (c .before .before .loop2 .inv .0 _ (c .before .before .before .before .before .before .loop .inv .0) .periodic .replaying .ahead) (c .before .before .before .before .if1 .taken) _ (c .before .before .before .before .before .before .before .before .before .before .pre .0 .fixed) _ (c .before .before .before .pair-at .ensures) (c .if2 .taken)
+run-at-requires : tie.Need-run-at-requires Inv-loop2 μ-loop2 Inv-loop μ-loop
+run-at-requires c κs = (pattern-reached (reading (c .before .before .before)) .stands, c .if2 .taken)
 
-enter-run-requires : tie.Need-enter-run-requires Inv-loop2 μ-loop2 Inv-loop μ-loop
-enter-run-requires c κs = search needs
+replay-step-requires : tie.Need-replay-step-requires Inv-loop2 μ-loop2 Inv-loop μ-loop
+replay-step-requires c κs =
+    let p : In-pattern = c .before .before .before .before in
+    let w = filled p .within in
+    (_, next c, (w .rows, w .state))
 
 enum-known-next : tie.Need-enum-known-next Inv-loop2 μ-loop2 Inv-loop μ-loop
 enum-known-next c = search needs
+
+copy-rows-requires : tie.Need-copy-rows-requires Inv-loop2 μ-loop2 Inv-loop μ-loop
+copy-rows-requires c κs =
+    let g : Going = c .before in
+    let p = in-pattern (turn g) in
+    let t = steps g in
+    (omega (arith, state-room (t .state), filled p .records, same p), t .copies)
+
+sub-put-row : tie.Need-sub-put-row Inv-loop2 μ-loop2 Inv-loop μ-loop
+sub-put-row c = steps (c .before .before .before .before .before .before) .some
+
+put-row-requires : tie.Need-put-row-requires Inv-loop2 μ-loop2 Inv-loop μ-loop
+put-row-requires c κs =
+    let k : Copied = c .before .before .before .before in
+    let g : Going = k .before .before in
+    let p = in-pattern (turn g) in
+    let t = steps g in
+    omega (arith, t .some, state-room (t .state), filled p .records, k .copy-rows .kept .0, same p)
+
+loop2-less : tie.Need-loop2-less Inv-loop2 μ-loop2 Inv-loop μ-loop
+loop2-less c =
+    let k : Copied = c .before .before .before .before .before .before .before in
+    let g = goes (k .before .before) in
+    omega (arith, g .some, g .within)
+
+loop2-again : tie.Need-loop2-again Inv-loop2 μ-loop2 Inv-loop μ-loop
+loop2-again c =
+    let put = c .before .before in
+    let k : Copied = put .before .before .before .before .before in
+    let g : Going = k .before .before in
+    let i = in-pattern (turn g) .loop2 .inv in (
+      λ e w. filling-step _ (i .0 e w) (goes g) (put .put-row .ensures ∙ rw (k .copy-rows .ensures) refl),
+      put .put-row .kept .0 ∙ k .copy-rows .kept .0 ∙ i .1,
+    )
 
 enum-told : tie.Need-enum-told Inv-loop2 μ-loop2 Inv-loop μ-loop
 enum-told c = search needs
 
 same-length : tie.Need-same-length Inv-loop2 μ-loop2 Inv-loop μ-loop
-same-length c = omega (arith, c .before .before .before .before .before .before .loop2 .inv .1, c .before .before .before .before .before .before .before .before .before .before .loop .inv .1)
+same-length c = same (in-pattern (c .before .before))
 
 returns : tie.Need-returns Inv-loop2 μ-loop2 Inv-loop μ-loop
-returns c = absurd (run-taken (c .before .before) entered.Over (c .enum-told .given .1) refl)
+returns c = absurd (never (c .before .before) (went (c .before .before) stepped.Over (c .enum-told .given .1)))
 
 enum-told-2 : tie.Need-enum-told-2 Inv-loop2 μ-loop2 Inv-loop μ-loop
 enum-told-2 c = search needs
 
 same-length-2 : tie.Need-same-length-2 Inv-loop2 μ-loop2 Inv-loop μ-loop
-same-length-2 c = omega (arith, c .before .before .before .before .before .before .loop2 .inv .1, c .before .before .before .before .before .before .before .before .before .before .loop .inv .1)
+same-length-2 c = same (in-pattern (c .before .before))
 
 returns-2 : tie.Need-returns-2 Inv-loop2 μ-loop2 Inv-loop μ-loop
-returns-2 c = absurd (run-taken (c .before .before) entered.Full (c .enum-told2 .given .1) refl)
+returns-2 c = absurd (never (c .before .before) (went (c .before .before) stepped.Full (c .enum-told2 .given .1)))
 
-add-pass-periods : tie.Need-add-pass-periods Inv-loop2 μ-loop2 Inv-loop μ-loop
-add-pass-periods c = omega (arith, c .before .before .before .before .before .stretch-at .ensures .within, c .before .before .before .before .before .before .before .before .before .pair-at .ensures .countFits)
-
-pass-periods-requires : tie.Need-pass-periods-requires Inv-loop2 μ-loop2 Inv-loop μ-loop
-pass-periods-requires c κs =
-    let t : Turn = (c .before .before .before .before) in
-    turn-fits _ _ _ _ _ _ (t .before .before .before .before .loop2 .inv .0 _ (t .before .before .before .before .before .before .before .before .loop .inv .0) .periodic) (t .before .before .before .before .before .before .if1 .taken) _ (t .before .before .before .before .before .before .before .before .before .before .before .before .pre .0 .fixed) _ (t .before .before .before .before .before .pair-at .ensures) (t .before .stretch-at .result) (t .before .stretch-at .ensures) (run-entered t (c .before .before .next .given .1))
-
-enum-known-next-2 : tie.Need-enum-known-next-2 Inv-loop2 μ-loop2 Inv-loop μ-loop
-enum-known-next-2 c = search needs
-
-copy-rows-requires : tie.Need-copy-rows-requires Inv-loop2 μ-loop2 Inv-loop μ-loop
-copy-rows-requires c κs =
-    let p : Passing = (c .before .before .before .before .before) in
-    let t : Turn = (p .before .before .before .before .before) in
-    let q = copy-fits _ _ _ _ _ _ _ _ (t .before .before .before .before .loop2 .inv .0 _ (t .before .before .before .before .before .before .before .before .loop .inv .0)) (t .before .before .before .before .before .before .if1 .taken) _ (t .before .before .before .before .before .before .before .before .before .before .before .before .pre .0 .fixed) _ (t .before .before .before .before .before .pair-at .ensures) (t .before .stretch-at .result) (t .before .stretch-at .ensures) (run-entered t (p .before .before .before .next .given .1)) (passed p _ (c .before .before .before .next2 .given .1)) in
-    (omega (arith, q .0, t .before .before .before .before .loop2 .inv .1, t .before .before .before .before .before .before .before .before .loop .inv .1), q .1)
-
-enum-told-3 : tie.Need-enum-told-3 Inv-loop2 μ-loop2 Inv-loop μ-loop
-enum-told-3 c = search needs
-
-same-length-3 : tie.Need-same-length-3 Inv-loop2 μ-loop2 Inv-loop μ-loop
-same-length-3 c = omega (arith, c .before .before .before .before .before .before .before .before .before .before .before .loop2 .inv .1, c .before .before .before .before .before .before .before .before .before .before .before .before .before .before .before .loop .inv .1)
-
-returns-3 : tie.Need-returns-3 Inv-loop2 μ-loop2 Inv-loop μ-loop
-returns-3 c =
-    let p : Passing = (c .before .before) in
-    let t : Turn = (p .before .before .before .before .before) in
-    absurd (refused-given (sym (turn-full _ _ _ _ _ _ (t .before .before .before .before .loop2 .inv .0 _ (t .before .before .before .before .before .before .before .before .loop .inv .0) .periodic) (t .before .before .before .before .before .before .if1 .taken) _ (t .before .before .before .before .before .before .before .before .before .before .before .before .pre .0 .fixed) _ (t .before .before .before .before .before .pair-at .ensures) (t .before .stretch-at .result) (t .before .stretch-at .ensures) (run-entered t (p .before .before .before .next .given .1)) (passed p passes.Full (c .enum-told3 .given .1))) ∙ t .before .before .before .before .before .before .before .before .before .before .before .before .pre .1 .1))
-
--- the last row's place
-row-fits : (c : Copying) → (1 ≤ c .before .before .before .before .next2 .given .0 .0 .rows) × (2 * (c .before .before .before .before .next2 .given .0 .0 .rows - 1) + 2 ≤ length (c .before .before .before .before .before .before .before .before .before .before .before .before .before .before .before .before .before .before .before .before .before .before .before .args .rows .now))
-row-fits c =
-    let p : Passing = (c .before .before .before .before .before .before) in
-    let t : Turn = (p .before .before .before .before .before) in
-    put-fits _ _ _ _ _ _ _ _ (t .before .before .before .before .loop2 .inv .0 _ (t .before .before .before .before .before .before .before .before .loop .inv .0)) (t .before .before .before .before .before .before .if1 .taken) _ (t .before .before .before .before .before .before .before .before .before .before .before .before .pre .0 .fixed) _ (t .before .before .before .before .before .pair-at .ensures) (t .before .stretch-at .result) (t .before .stretch-at .ensures) (run-entered t (p .before .before .before .next .given .1)) (passed p _ (c .before .before .before .before .next2 .given .1))
-
-sub-put-row : tie.Need-sub-put-row Inv-loop2 μ-loop2 Inv-loop μ-loop
-sub-put-row c = row-fits (c .before .before .before .before) .0
-
-put-row-requires : tie.Need-put-row-requires Inv-loop2 μ-loop2 Inv-loop μ-loop
-put-row-requires c κs = omega (arith, row-fits (c .before .before .before .before) .1, c .before .before .before .before .copy-rows .kept .0, c .before .before .before .before .before .before .before .before .before .before .before .before .before .before .before .before .before .before .before .loop2 .inv .1, c .before .before .before .before .before .before .before .before .before .before .before .before .before .before .before .before .before .before .before .before .before .before .before .loop .inv .1)
-
-loop2-less : tie.Need-loop2-less Inv-loop2 μ-loop2 Inv-loop μ-loop
-loop2-less c =
-    let o = passed (c .before .before .before .before .before .before .before .before .before .before .before .before .before) _ (c .before .before .before .before .before .before .before .before .before .before .before .next2 .given .1) in
-    omega (arith, o .sample, o .repeats .within, c .before .before .before .before .before .before .before .before .before .before .before .before .before .before .before .before .before .before .before .stretch-at .ensures .some)
-
-loop2-again : tie.Need-loop2-again Inv-loop2 μ-loop2 Inv-loop μ-loop
-loop2-again c =
-    let p : Passing = (c .before .before .before .before .before .before .before .before .before .before .before .before .before) in
-    let t : Turn = (p .before .before .before .before .before) in (
-      λ e w. filled-turn _ e _ _ _ _ _ _ (t .before .before .before .before .loop2 .inv .0 e w) (t .before .before .before .before .before .before .if1 .taken) _ (t .before .before .before .before .before .before .before .before .before .before .before .before .pre .0 .fixed) _ (t .before .before .before .before .before .pair-at .ensures) (t .before .stretch-at .result) (t .before .stretch-at .ensures) (run-entered t (p .before .before .before .next .given .1)) (passed p _ (c .before .before .before .before .before .before .before .before .before .before .before .next2 .given .1)) _ (c .before .before .put-row .ensures ∙ rw (c .before .before .before .before .before .before .before .copy-rows .ensures) refl),
-      c .before .before .put-row .kept .0 ∙ c .before .before .before .before .before .before .before .copy-rows .kept .0 ∙ t .before .before .before .before .loop2 .inv .1,
-    )
-
-next-pattern-requires : tie.Need-next-pattern-requires Inv-loop2 μ-loop2 Inv-loop μ-loop
-next-pattern-requires c κs = behind-fits _ (c .before .before .before .before .before .before .loop .here) (c .before .before .loop2 .k) (c .before .before .loop2 .inv .0 _ (c .before .before .before .before .before .before .loop .inv .0) .periodic .replaying .ahead) (c .before .before .before .before .if1 .taken) _ (c .before .before .before .before .before .before .before .before .before .before .pre .0 .fixed) _ (c .before .before .before .pair-at .ensures)
+patterns-behind-requires : tie.Need-patterns-behind-requires Inv-loop2 μ-loop2 Inv-loop μ-loop
+patterns-behind-requires c κs =
+    let n = reading (c .before .before .before .before) in
+    (n .before .if1 .taken, pattern-reached n .near)
 
 loop-less : tie.Need-loop-less Inv-loop2 μ-loop2 Inv-loop μ-loop
 loop-less c =
-    let e : c .next-pattern .result .left ≡ c .before .before .before .before .before .before .before .loop .here .left - 1 = ap (λ (x : PatternsAt). x .left) (c .next-pattern .ensures) in
-    omega (arith, c .before .before .before .before .before .if1 .taken)
+    let n = reading (c .before .before .before .before .before) in
+    let e = ap (λ (x : PatternsAt). x .left) (c .patterns-behind .ensures) in
+    omega (arith, n .before .if1 .taken)
 
 loop-again : tie.Need-loop-again Inv-loop2 μ-loop2 Inv-loop μ-loop
 loop-again c =
-    let w = c .before .before .before .loop2 .inv .0 _ (c .before .before .before .before .before .before .before .loop .inv .0) in
-    let a = walk-next _ (c .before .before .before .before .before .before .before .loop .here) (c .before .before .before .loop2 .k) (w .periodic .replaying .ahead) (c .before .before .before .before .before .if1 .taken) _ (c .before .before .before .before .before .before .before .before .before .before .before .pre .0 .fixed) _ (c .before .before .before .before .pair-at .ensures) (c .before .if2 .left) in
-    (rw (c .next-pattern .ensures) (record { replaying = replaying-at _ _ _ _ (w .periodic .replaying) _ a; written = w .written; records = w .records }), c .before .before .before .loop2 .inv .1 ∙ c .before .before .before .before .before .before .before .loop .inv .1)
+    let p : In-pattern = c .before .before .before .before .before in
+    rw (c .patterns-behind .ensures) (filling-out _ (filled p) (c .before .before .if2 .left), pattern-reached (reading p) .whole, same p)
 
-same-length-4 : tie.Need-same-length-4 Inv-loop2 μ-loop2 Inv-loop μ-loop
-same-length-4 c = search needs
+same-length-3 : tie.Need-same-length-3 Inv-loop2 μ-loop2 Inv-loop μ-loop
+same-length-3 c = c .before .before .loop .inv .2
 
-returns-4 : tie.Need-returns-4 Inv-loop2 μ-loop2 Inv-loop μ-loop
-returns-4 c =
-    let w = c .before .before .loop .inv .0 in
-    filling-end _ _ _ _ _ _ w (walk-end _ _ (w .replaying .ahead) (omega (arith, c .if1 .left)))
+returns-3 : tie.Need-returns-3 Inv-loop2 μ-loop2 Inv-loop μ-loop
+returns-3 c =
+    let at = c .before .before in
+    let a = at .before .before .before .before .args in
+    filling-end (rw (none-coming (a .s .now) (at .loop .here) (c .if1 .left)) at (at .loop .inv .0))
 
 pub fill-spec : {M : Type 1} → statement M
 fill-spec =
@@ -184,30 +246,25 @@ fill-spec =
     μ-loop
     first-pattern-requires
     loop-holds
-    pair-at-requires
+    pattern-at-requires
+    pattern-start-requires
     loop2-holds
-    stretch-at-requires
-    enter-run-requires
+    run-at-requires
+    replay-step-requires
     enum-known-next
+    copy-rows-requires
+    sub-put-row
+    put-row-requires
+    loop2-less
+    loop2-again
     enum-told
     same-length
     returns
     enum-told-2
     same-length-2
     returns-2
-    add-pass-periods
-    pass-periods-requires
-    enum-known-next-2
-    copy-rows-requires
-    enum-told-3
-    same-length-3
-    returns-3
-    sub-put-row
-    put-row-requires
-    loop2-less
-    loop2-again
-    next-pattern-requires
+    patterns-behind-requires
     loop-less
     loop-again
-    same-length-4
-    returns-4)
+    same-length-3
+    returns-3)

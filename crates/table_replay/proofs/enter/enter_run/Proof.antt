@@ -1,3 +1,4 @@
+-- Each way out is one of `enterRun`, by the tests on its way; past those for the last row a new one begins (`begins`).
 use mathlib.Core.Path.{_≡_, sym, _∙_}
 use mathlib.Core.Logic.{⊎-elim}
 use Prim.Native.Nat.{_≤_, _<_, _+_}

@@ -1,3 +1,4 @@
+-- 0 where a test on the way fails; else all whole periods that are left.
 use mathlib.Core.Path.{refl}
 use mathlib.Core.Logic.{inl, inr}
 use Prim.Native.Nat.{_-_}
@@ -27,14 +28,16 @@ div-result c = search needs
 
 returns-5 : tie.Need-returns-5
 returns-5 c =
-    let e = c .before .before .before .before .before .before .before .before .before .before .before .before in
-    let a = e .args in
+    let same-count = c .before .before .before in
+    let more-rows = same-count .before .before .before in
+    let start = more-rows .before .before .before .before .before .before in
+    let a = start .args in
     record {
       alike = inr (record {
-        period = e .pre .2;
+        period = start .pre .2;
         some = omega arith;
         more = omega arith;
-        count = omega (arith, c .before .before .before .if3 .left);
+        count = omega (arith, same-count .if3 .left);
         index = omega (arith, c .if4 .left);
       });
       within = omega (arith, div-mul-le-self (a .count - a .k) (a .length));

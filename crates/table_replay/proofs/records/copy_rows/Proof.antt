@@ -1,3 +1,4 @@
+-- The invariant: what is still to be copied, from the run as it is, makes what all of the copies make of the run as it was.
 use mathlib.Core.Path.{_≡_, refl, ap, sym, _∙_}
 use Prim.Native.Nat.{_-_, _≤_, _<_}
 use native.Mathlib.Omega.{arith}
@@ -13,52 +14,62 @@ Inv-loop rows₀ from to end i₀ j₀ rows i j = (copied (end - j) (i - 1) (j -
 abbrev μ-loop : tie.MeasureT-loop
 μ-loop rows₀ from to end i₀ j₀ rows i j = end - j
 
+-- within the loop a row is left to copy, and it stands before its place
+abbrev Turn : Type 0
+Turn = tie.In-loop Inv-loop μ-loop
+
+behind : (c : Turn) → (0 < c .before .loop .i) × (c .before .loop .i ≤ c .before .loop .j)
+behind c = c .before .loop .inv .1 (c .loop-test .taken)
+
 loop-holds : tie.Need-loop-holds Inv-loop μ-loop
 loop-holds c = (refl, c .before .pre .1, refl)
 
 sub-at : tie.Need-sub-at Inv-loop μ-loop
-sub-at c = let h = c .before .loop .inv .1 (c .loop-test .taken) in omega arith
+sub-at c = let h = behind c in omega arith
 
 mul-at : tie.Need-mul-at Inv-loop μ-loop
-mul-at c = let h = c .before .loop .inv .1 (c .loop-test .taken) in omega arith
+mul-at c = let h = behind c in omega arith
 
 mul-count : tie.Need-mul-count Inv-loop μ-loop
-mul-count c = let h = c .before .loop .inv .1 (c .loop-test .taken) in omega arith
+mul-count c = let h = behind c in omega arith
 
 slice-read-count : tie.Need-slice-read-count Inv-loop μ-loop
-slice-read-count c = let h = c .before .before .loop .inv .1 (c .before .loop-test .taken) in omega arith
+slice-read-count c = let h = behind (c .before) in omega arith
 
 add-index : tie.Need-add-index Inv-loop μ-loop
-add-index c = let h = c .before .before .loop .inv .1 (c .before .loop-test .taken) in omega arith
+add-index c = let h = behind (c .before) in omega arith
 
 mul-index : tie.Need-mul-index Inv-loop μ-loop
-mul-index c = let h = c .before .before .loop .inv .1 (c .before .loop-test .taken) in omega arith
+mul-index c = let h = behind (c .before) in omega arith
 
 slice-read-index : tie.Need-slice-read-index Inv-loop μ-loop
-slice-read-index c = let h = c .before .before .before .loop .inv .1 (c .before .before .loop-test .taken) in omega arith
+slice-read-index c = let h = behind (c .before .before) in omega arith
 
 sub-put-row : tie.Need-sub-put-row Inv-loop μ-loop
-sub-put-row c = let h = c .before .before .before .before .loop .inv .1 (c .before .before .before .loop-test .taken) in omega arith
+sub-put-row c = let h = behind (c .before .before .before) in omega arith
 
 put-row-requires : tie.Need-put-row-requires Inv-loop μ-loop
-put-row-requires c κs = let h = c .before .before .before .before .loop .inv .1 (c .before .before .before .loop-test .taken) in omega arith
+put-row-requires c κs = let h = behind (c .before .before .before) in omega arith
 
 add-i : tie.Need-add-i Inv-loop μ-loop
-add-i c = let h = c .before .before .before .before .before .before .before .loop .inv .1 (c .before .before .before .before .before .before .loop-test .taken) in omega arith
+add-i c = let h = behind (c .before .before .before .before .before .before) in omega arith
 
 add-j : tie.Need-add-j Inv-loop μ-loop
-add-j c = let h = c .before .before .before .before .before .before .before .loop .inv .1 (c .before .before .before .before .before .before .loop-test .taken) in omega arith
+add-j c = let h = behind (c .before .before .before .before .before .before) in omega arith
 
 loop-less : tie.Need-loop-less Inv-loop μ-loop
 loop-less c = omega (arith, c .before .before .before .before .before .before .loop-test .taken)
 
 loop-again : tie.Need-loop-again Inv-loop μ-loop
 loop-again c =
-    let h = c .before .before .before .before .before .before .before .loop .inv .1 (c .before .before .before .before .before .before .loop-test .taken) in
+    let turn : Turn = c .before .before .before .before .before .before in
+    let at-loop = turn .before in
+    let own = at-loop .loop in
+    let h = behind turn in
     let q = c .before .before .put-row .ensures in (
-      sym (copied-one (c .before .before .before .before .before .before .before .loop .i) (c .before .before .before .before .before .before .before .loop .j) (c .before .before .before .before .before .before .before .before .before .args .end) (c .before .before .before .before .before .before .before .loop .rows) (h .0) (h .1) (c .before .before .before .before .before .before .loop-test .taken) q) ∙ c .before .before .before .before .before .before .before .loop .inv .0,
+      sym (copied-one (own .i) (own .j) (at-loop .before .before .args .end) (own .rows) (h .0) (h .1) (turn .loop-test .taken) q) ∙ own .inv .0,
       λ l. (omega arith, omega arith),
-      ap length q ∙ simp length-set (c .before .before .before .before .before .before .before .loop .inv .2),
+      ap length q ∙ simp length-set (own .inv .2),
     )
 
 same-length : tie.Need-same-length Inv-loop μ-loop

@@ -1,3 +1,4 @@
+-- Two numbers are written, both within the run.
 use native.Mathlib.Omega.{arith}
 use borrow.Author.Needs.{needs}
 use lib.ListN.{length-set}

@@ -1,0 +1,4 @@
+pub mod Widths
+pub mod Reading
+pub mod Checked
+pub mod Ahead

@@ -1,0 +1,2 @@
+pub mod Csgp
+pub mod Head

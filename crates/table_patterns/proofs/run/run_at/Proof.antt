@@ -1,0 +1,81 @@
+-- The run ends with the period (`run-part`), or is all that is left where the whole period is alike (`run-all`).
+use mathlib.Core.Path.{subst}
+use Prim.Native.Nat.{ℕ, _≤_, _<_, _+_, _%_}
+use native.Mathlib.Nat.{mod-lt, mul-le-mul-left}
+use native.Mathlib.Omega.{arith}
+use borrow.Author.Needs.{needs}
+use Rattle.table_patterns.specs.Place.{indexNumber}
+use Rattle.table_patterns.specs.Run.{AlikeIndices}
+use Rattle.table_patterns.proofs.Runs.{run-part, run-all, gives-run}
+use Rattle.table_patterns.proofs.run.run_at.Statement.{statement}
+use Rattle.table_patterns.proofs.run.run_at.Tie as tie
+
+-- the entry, from the place where the end of the run is known
+abbrev entry : tie.After-least → tie.Start
+entry c = c .before .before .before .before .before
+
+-- the place of the first sample in its period
+abbrev turn : tie.Start → ℕ
+turn c = c .args .k % c .args .pattern .length
+
+turn-below : (c : tie.Start) → turn c < c .args .pattern .length
+turn-below c = mod-lt _ (c .pre .0 .some)
+
+rem-from : tie.Need-rem-from
+rem-from c = omega (arith, c .before .before .pre .0 .some)
+
+sub-left : tie.Need-sub-left
+sub-left c = search needs
+
+sub-least : tie.Need-sub-least
+sub-least c = omega (arith, turn-below (c .before .before .before .before))
+
+least-requires : tie.Need-least-requires
+least-requires c κs = search needs
+
+add-end : tie.Need-add-end
+add-end c = omega (arith, turn-below (entry c), c .least .ensures)
+
+equal-indices-requires : tie.Need-equal-indices-requires
+equal-indices-requires c κs =
+    let start = entry c in
+    let p = start .args .pattern in
+    let m = turn-below start in
+    let n = c .least .ensures in
+    let h : turn start + c .least .result ≤ p .length = omega arith in
+    (start .pre .0 .narrow, omega (arith, start .pre .1), omega (arith, mul-le-mul-left (p .width) h, start .pre .0 .inside), start .pre .0 .short)
+
+returns : tie.Need-returns
+returns c =
+    let found = c .before .before .before in
+    let start = entry (found .before) in
+    let p = start .args .pattern in
+    let f = indexNumber (p .width) (start .args .s .now) (p .indices) in
+    let m = turn-below start in
+    let end = turn start + found .before .least .result in
+    let t = subst (λ (n : ℕ). AlikeIndices f (turn start) end (record { count = n; index = found .equal-indices .result .index })) (c .if1 .taken) (found .equal-indices .ensures) in
+    gives-run (start .args .s .now) p (start .args .k) _ (start .pre .0 .some)
+    (run-all f (p .length) (start .args .k) (p .count) (start .pre .0 .some) _ _ t (omega (arith, found .before .least .ensures)) (start .pre .1))
+
+returns-2 : tie.Need-returns-2
+returns-2 c =
+    let found = c .before .before .before in
+    let start = entry (found .before) in
+    let p = start .args .pattern in
+    let m = turn-below start in
+    let n = found .before .least .ensures in
+    gives-run (start .args .s .now) p (start .args .k) _ (start .pre .0 .some)
+    (run-part _ (p .length) (start .args .k) (p .count) (start .pre .0 .some) _ _ (found .equal-indices .ensures) (omega arith) (omega arith) (start .pre .1))
+
+pub run-at-spec : {M : Type 1} → statement M
+run-at-spec =
+    tie.close
+    (tie.spec
+    rem-from
+    sub-left
+    sub-least
+    least-requires
+    add-end
+    equal-indices-requires
+    returns
+    returns-2)
