@@ -14,11 +14,11 @@ use Rattle.base_fields.proofs.Bits.{Bytes, beAt-below}
 use Rattle.base_fields.proofs.Bytes.{beAt-one}
 use Rattle.group_entries.specs.Decoded.{Point, OutputPair, offsetAt, pairAt, rollCount, offsetsEnd, Rap as RapFields, Sap as SapFields, Rash as RashFields, Alst as AlstFields, rapOf, teleOf, sapOf, rawOf, signed16, topBit, pointCount, pointsEnd, pointAt, upTo}
 use Rattle.group_entries.proofs.Extent.{rashAt, alstAt, single, several}
-use Rattle.group_alike.specs.Front.{frontOf, Agree}
-use Rattle.group_alike.specs.declared.EntryLayout.{EntryLayout}
-use Rattle.group_alike.specs.declared.EntryLayout.the-variants.{Roll, Rap, Tele, Sap, Rash, Alst, Raw}
+use Rattle.group_alike.specs.Front.{Agree, frontSize}
+use Rattle.group_entries.specs.declared.EntryLayout.{EntryLayout}
+use Rattle.group_entries.specs.declared.EntryLayout.the-variants.{Roll, Rap, Tele, Sap, Rash, Alst, Raw}
 use Rattle.group_alike.proofs.Over.{Over, over-of-be, be-of-over, each-of-upTo, upTo-of-each}
-use Rattle.group_alike.proofs.Values.{valueOf, Sized}
+use Rattle.group_entries.proofs.Values.{valueOf, Sized}
 
 signed16-one : (x y : ℕ) → x < 65536 → y < 65536 → signed16 x ≡ signed16 y → x ≡ y
 unfolding signed16
@@ -168,7 +168,7 @@ module _ (a b : List ℕ) where
     bit e = bit-of-top _ _ (beAt-below 1 a 0 ba) (beAt-below 1 b 0 bb) e
 
 pub agree-of-value : (l : EntryLayout) (a b : List ℕ) → Bytes a → Bytes b → Sized l a → Sized l b → valueOf l a ≡ valueOf l b
-    → (frontOf l a ≡ frontOf l b) × Agree l a b (frontOf l a)
+    → (frontSize l a ≡ frontSize l b) × Agree l a b (frontSize l a)
 agree-of-value Roll a b ba bb sa sb e =
     let s : signed16 (beAt 2 a 0) ≡ signed16 (beAt 2 b 0) = cc in
     (refl, λ i h. over-of-be 2 a b 0 ba bb (signed16-one _ _ (beAt-below 2 a 0 ba) (beAt-below 2 b 0 bb) s) i zero-le (omega arith))
@@ -187,7 +187,7 @@ agree-of-value Rash a b ba bb sa sb e = let r = rash-agree a b ba bb e in (ap (�
 agree-of-value Alst a b ba bb sa sb e = alst-agree a b ba bb sa sb e
 agree-of-value Raw a b ba bb sa sb e = let s : a ≡ b = cc in rw s (refl, λ i h. refl)
 
-pub value-of-agree : (l : EntryLayout) (a b : List ℕ) → Bytes a → Bytes b → frontOf l a ≡ frontOf l b → Agree l a b (frontOf l a) → valueOf l a ≡ valueOf l b
+pub value-of-agree : (l : EntryLayout) (a b : List ℕ) → Bytes a → Bytes b → frontSize l a ≡ frontSize l b → Agree l a b (frontSize l a) → valueOf l a ≡ valueOf l b
 value-of-agree Roll a b ba bb f o = rw (be-of-over 2 a b 0 (λ i h l. o i (omega arith))) refl
 value-of-agree Rap a b ba bb f o = let e = first-at a b (λ n. n) o in rw e refl
 value-of-agree Tele a b ba bb f o = ap teleOf (bit a b ba bb (first-at a b (λ n. n / 128) o))

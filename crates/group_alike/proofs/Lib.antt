@@ -1,4 +1,4 @@
 pub mod Over
-pub mod Values
+pub mod Fronts
 pub mod Decides
 pub mod Pairs

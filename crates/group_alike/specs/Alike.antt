@@ -3,7 +3,7 @@ use Prim.Native.Nat.{ℕ}
 use mathlib.Core.Path.{_≡_}
 use mathlib.Core.List.{List}
 use Rattle.base_fields.specs.Answer.{Answer, given, refused, andThen, within}
-use Rattle.group_entries.specs.Decoded.{decode}
+use Rattle.group_entries.specs.Layout.{decode}
 use Rattle.group_alike.specs.declared.Alike.{Alike}
 use Rattle.group_alike.specs.declared.Alike.the-variants.{Same, Different, Refused}
 

@@ -1,17 +1,18 @@
 // Whether two entries of one grouping type decode to the same value (document 01, part 8: like meanings).
 use base_fields::INPUT_LIMIT;
-use base_fields::fourcc;
 use group_entries::DecodedAlst;
 use group_entries::DecodedRap;
 use group_entries::DecodedRash;
 use group_entries::DecodedRoll;
 use group_entries::DecodedSap;
 use group_entries::DecodedTele;
+use group_entries::EntryLayout;
 ghost use mathlib.Core.Path.{_≡_};
 ghost use Prim.Native.Nat.{_≤_};
 ghost use lib.ListN.{length};
 ghost use Rattle.base_fields.specs.Answer.{given, andThen, inputLimit};
-ghost use Rattle.group_alike.specs.Front.{layoutOf, significantOf, decodeAs, frontOf, toldFront, GivesSameFront};
+ghost use Rattle.group_alike.specs.Front.{significantOf, GivesSameFront, frontSize, toldFrontSize};
+ghost use Rattle.group_entries.specs.Layout.{decodeAs};
 ghost use Rattle.group_alike.specs.Alike.{GivesAlike};
 
 pub enum Alike {
@@ -20,35 +21,10 @@ pub enum Alike {
     Refused(u32),
 }
 
-// How an entry's bytes are laid out; Raw is any type that part 7 does not name.
-enum EntryLayout {
-    Roll,
-    Rap,
-    Tele,
-    Sap,
-    Rash,
-    Alst,
-    Raw,
-}
-
 // How many bytes at the front of an entry decide its value, or the decoder's refusal.
 enum Front {
     Bytes(usize),
     Refused(u32),
-}
-
-fn layout_of(grouping_type: u32) -> EntryLayout
-    ensures { λ r. ⌜ r ≡ layoutOf «grouping_type» ⌝ }
-{
-    match grouping_type {
-        fourcc::ROLL | fourcc::PROL => EntryLayout::Roll,
-        fourcc::RAP => EntryLayout::Rap,
-        fourcc::TELE => EntryLayout::Tele,
-        fourcc::SAP => EntryLayout::Sap,
-        fourcc::RASH => EntryLayout::Rash,
-        fourcc::ALST => EntryLayout::Alst,
-        _ => EntryLayout::Raw,
-    }
 }
 
 // The bits of a byte that a layout reads, packed.
@@ -68,7 +44,7 @@ fn significant(layout: EntryLayout, byte: u8) -> u8
 
 fn front_of(layout: EntryLayout, s: &[u8]) -> Front
     requires { ⌜ length (now s) ≤ inputLimit ⌝ }
-    ensures { λ r. ⌜ toldFront r ≡ andThen (decodeAs layout (now (s .entry))) (λ v. given (frontOf layout (now (s .entry)))) ⌝ }
+    ensures { λ r. ⌜ toldFrontSize r ≡ andThen (decodeAs layout (now (s .entry))) (λ v. given (frontSize layout (now (s .entry)))) ⌝ }
 {
     match layout {
         EntryLayout::Roll => match group_entries::decode_roll(s) {
@@ -125,7 +101,7 @@ pub fn decode_alike(grouping_type: u32, a: &[u8], b: &[u8]) -> Alike
     if INPUT_LIMIT < b.len() {
         return Alike::Refused(55);
     }
-    let layout = layout_of(grouping_type);
+    let layout = group_entries::layout_of(grouping_type);
     let m = match front_of(layout, a) {
         Front::Bytes(k) => k,
         Front::Refused(code) => return Alike::Refused(code),

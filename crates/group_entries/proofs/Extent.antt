@@ -6,10 +6,15 @@ use native.Mathlib.Omega.{arith}
 use lib.Dec.{ltb, eqb}
 use lib.ListN.{length}
 use borrow.Author.Tests.{ltb-false, eq-eqb, ne-eqb}
-use Rattle.base_fields.specs.Answer.{given, within, inputLimit}
+use Rattle.base_fields.specs.Answer.{Answer, given, inputLimit}
 use Rattle.base_fields.specs.Number.{beAt}
 use Rattle.group_entries.specs.Decoded.{Rash, Alst, pointCount, pointsEnd, decodeRash, pointAt, rollCount, offsetsEnd, decodeAlst}
 use Rattle.base_fields.proofs.Answers.{given-inj, given-past}
+use Rattle.group_entries.proofs.Front.{ToldWithin}
+
+-- what is given was not too long
+past-limit : {A : Type 0} {s : List ℕ} {x : Answer A} {v : A} → ToldWithin s x (given v) → x ≡ given v
+past-limit {s = s} {x} e = given-past (ltb inputLimit (length s)) 55 x (sym (e .told)) .1
 
 -- the plain fields
 abbrev pub rashAt : List ℕ → Rash
@@ -21,10 +26,10 @@ rashAt s =
       priority = beAt 1 s (pointsEnd s + 8);
     }
 
-pub rash-given : (s : List ℕ) {v : Rash} → given v ≡ decodeRash s → (v ≡ rashAt s) × (pointsEnd s + 9 ≤ length s)
+pub rash-given : (s : List ℕ) {v : Rash} → decodeRash s ≡ given v → (v ≡ rashAt s) × (pointsEnd s + 9 ≤ length s)
 unfolding decodeRash
 rash-given s e =
-    let short = given-past (ltb (length s) 2) 40 _ (sym e) in
+    let short = given-past (ltb (length s) 2) 40 _ e in
     let empty = given-past (eqb (pointCount s) 0) 41 _ (short .1) in
     let cut = given-past (ltb (length s) (pointsEnd s)) 42 _ (empty .1) in
     let trailer = given-past (ltb (length s) (pointsEnd s + 9)) 43 _ (cut .1) in
@@ -34,9 +39,9 @@ pub record RashExtent (s : List ℕ) (n : ℕ) : Type 0 where
   pub points : n ≡ pointCount s
   pub whole : pointsEnd s + 9 ≤ length s
 
-pub rash-extent : (s : List ℕ) {v : Rash} → given v ≡ within s (decodeRash s) → RashExtent s (v .points)
-rash-extent s e =
-    let x = rash-given s (sym (given-past (ltb inputLimit (length s)) 55 (decodeRash s) (sym e) .1)) in
+pub rash-extent : {s : List ℕ} {v : Rash} → ToldWithin s (decodeRash s) (given v) → RashExtent s (v .points)
+rash-extent {s} e =
+    let x = rash-given s (past-limit e) in
     record { points = ap (λ (r : Rash). r .points) (x .0); whole = x .1 }
 
 -- one point is a share alone
@@ -51,10 +56,10 @@ several s k h = simp (ne-eqb _ _ h)
 abbrev pub alstAt : List ℕ → Alst
 alstAt s = record { rollCount = rollCount s; firstOutput = beAt 2 s 2; pairs = (length s - offsetsEnd s) / 4 }
 
-pub alst-given : (s : List ℕ) {v : Alst} → given v ≡ decodeAlst s → (v ≡ alstAt s) × (offsetsEnd s + 4 * ((length s - offsetsEnd s) / 4) ≡ length s)
+pub alst-given : (s : List ℕ) {v : Alst} → decodeAlst s ≡ given v → (v ≡ alstAt s) × (offsetsEnd s + 4 * ((length s - offsetsEnd s) / 4) ≡ length s)
 unfolding decodeAlst
 alst-given s e =
-    let short = given-past (ltb (length s) 4) 40 _ (sym e) in
+    let short = given-past (ltb (length s) 4) 40 _ e in
     let cut = given-past (ltb (length s) (offsetsEnd s)) 44 _ (short .1) in
     let tail = given-past (ltb 0 ((length s - offsetsEnd s) % 4)) 45 _ (cut .1) in (
       sym (given-inj (tail .1)),
@@ -65,8 +70,8 @@ pub record AlstExtent (s : List ℕ) (m n : ℕ) : Type 0 where
   pub rolls : m ≡ rollCount s
   pub pairs : offsetsEnd s + 4 * n ≡ length s
 
-pub alst-extent : (s : List ℕ) {v : Alst} → given v ≡ within s (decodeAlst s) → AlstExtent s (v .rollCount) (v .pairs)
-alst-extent s {v} e =
-    let x = alst-given s (sym (given-past (ltb inputLimit (length s)) 55 (decodeAlst s) (sym e) .1)) in
+pub alst-extent : {s : List ℕ} {v : Alst} → ToldWithin s (decodeAlst s) (given v) → AlstExtent s (v .rollCount) (v .pairs)
+alst-extent {s} {v} e =
+    let x = alst-given s (past-limit e) in
     let n : v .pairs ≡ (length s - offsetsEnd s) / 4 = ap (λ (a : Alst). a .pairs) (x .0) in
     record { rolls = ap (λ (a : Alst). a .rollCount) (x .0); pairs = rw n (x .1) }

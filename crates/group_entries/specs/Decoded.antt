@@ -1,13 +1,12 @@
 -- Part 7 of document 01: the typed entries of an sgpd. An entry is the whole list of its bytes.
 use Prim.Native.Nat.{ℕ, zero, suc, _+_, _-_, _*_, _/_, _%_}
-use mathlib.Core.Bool.{Bool, true, false}
+use mathlib.Core.Bool.{Bool}
 use mathlib.Core.List.{List, [], _∷_}
 use lib.Dec.{ltb, leb, eqb}
 use lib.IntN.{ℤ, pos, negsuc}
 use lib.ListN.{length}
-use Rattle.base_fields.specs.Answer.{Answer, given, none, refused, choose, refuseIf, noneIf, andThen, within}
+use Rattle.base_fields.specs.Answer.{Answer, given, choose, refuseIf, noneIf, andThen}
 use Rattle.base_fields.specs.Number.{beAt}
-use Rattle.base_fields.specs.Fourcc as fourcc
 
 -- the signed number that 16 bits hold
 unfoldable pub signed16 : ℕ → ℤ
@@ -78,7 +77,7 @@ decodeRash s =
       priority = beAt 1 s (pointsEnd s + 8);
     })))))
 
--- point k of a rash, counted from 0
+-- point k of a rash
 unfoldable pub pointAt : List ℕ → ℕ → Point
 pointAt s k =
     choose (eqb (pointCount s) 1) (record { bitrate = 0; share = beAt 2 s 2 })
@@ -104,15 +103,18 @@ offsetAt s k = beAt 4 s (4 + 4 * k)
 unfoldable pub pairAt : List ℕ → ℕ → OutputPair
 pairAt s k = record { output = beAt 2 s (offsetsEnd s + 4 * k); total = beAt 2 s (offsetsEnd s + 4 * k + 2) }
 
--- points, offsets and pairs by number: the decoder's refusals first, none past the count
+-- by number k, counted from 0: the decoder's refusals first, none past the count
+unfoldable pub byNumber : {A B : Type 0} → Answer A → (A → ℕ) → ℕ → B → Answer B
+byNumber x count k b = andThen x (λ v. noneIf (leb (count v) k) (given b))
+
 abbrev pub rashPoint : List ℕ → ℕ → Answer Point
-rashPoint s k = andThen (decodeRash s) (λ r. noneIf (leb (r .points) k) (given (pointAt s k)))
+rashPoint s k = byNumber (decodeRash s) (λ r. r .points) k (pointAt s k)
 
 abbrev pub alstOffset : List ℕ → ℕ → Answer ℕ
-alstOffset s k = andThen (decodeAlst s) (λ a. noneIf (leb (a .rollCount) k) (given (offsetAt s k)))
+alstOffset s k = byNumber (decodeAlst s) (λ a. a .rollCount) k (offsetAt s k)
 
 abbrev pub alstPair : List ℕ → ℕ → Answer OutputPair
-alstPair s k = andThen (decodeAlst s) (λ a. noneIf (leb (a .pairs) k) (given (pairAt s k)))
+alstPair s k = byNumber (decodeAlst s) (λ a. a .pairs) k (pairAt s k)
 
 -- f at 0, 1, .., n - 1
 unfoldable pub upTo : {A : Type 0} → (ℕ → A) → ℕ → ℕ → List A
@@ -128,16 +130,4 @@ pub data Decoded : Type 0 where
   rashOf : Rash → List Point → Decoded
   alstOf : Alst → List ℕ → List OutputPair → Decoded
   rawOf : List ℕ → Decoded
-
--- the value of an entry under a grouping type
-unfoldable pub decode : ℕ → List ℕ → Answer Decoded
-decode t s =
-    choose (eqb t fourcc.roll) (andThen (decodeRoll s) (λ d. given (rollOf d)))
-    (choose (eqb t fourcc.prol) (andThen (decodeRoll s) (λ d. given (rollOf d)))
-    (choose (eqb t fourcc.rap) (andThen (decodeRap s) (λ v. given (rapOf v)))
-    (choose (eqb t fourcc.tele) (andThen (decodeTele s) (λ b. given (teleOf b)))
-    (choose (eqb t fourcc.sap) (andThen (decodeSap s) (λ v. given (sapOf v)))
-    (choose (eqb t fourcc.rash) (andThen (decodeRash s) (λ r. given (rashOf r (upTo (pointAt s) 0 (r .points)))))
-    (choose (eqb t fourcc.alst)
-    (andThen (decodeAlst s) (λ a. given (alstOf a (upTo (offsetAt s) 0 (a .rollCount)) (upTo (pairAt s) 0 (a .pairs)))))
-    (given (rawOf s))))))))
+  deriving Discrete as decideDecoded

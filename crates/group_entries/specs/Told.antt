@@ -1,8 +1,12 @@
 -- Document 01's answer for each case of the decoders' enums.
 use Prim.Native.Nat.{ℕ}
+use mathlib.Core.Path.{_≡_}
 use mathlib.Core.Bool.{Bool}
+use mathlib.Core.List.{List}
+use lib.Dec.{ltb}
 use lib.IntN.{ℤ}
-use Rattle.base_fields.specs.Answer.{Answer, given, none, refused}
+use lib.ListN.{length}
+use Rattle.base_fields.specs.Answer.{Answer, given, none, refused, refuseIf, within}
 use Rattle.group_entries.specs.Decoded.{Rap, Sap, Point, Rash, OutputPair, Alst}
 use Rattle.group_entries.specs.declared.DecodedRoll.{DecodedRoll}
 use Rattle.group_entries.specs.declared.DecodedRoll.the-variants as roll
@@ -22,6 +26,8 @@ use Rattle.group_entries.specs.declared.ReadOffset.{ReadOffset}
 use Rattle.group_entries.specs.declared.ReadOffset.the-variants as offset
 use Rattle.group_entries.specs.declared.ReadPiece.{ReadPiece}
 use Rattle.group_entries.specs.declared.ReadPiece.the-variants as piece
+use Rattle.group_entries.specs.declared.LengthCheck.{LengthCheck}
+use Rattle.group_entries.specs.declared.LengthCheck.the-variants as check
 
 abbrev pub toldRoll : DecodedRoll → Answer ℤ
 toldRoll (roll.Roll v) = given (v .«roll_distance»)
@@ -69,3 +75,11 @@ abbrev pub toldPiece : ReadPiece → Answer OutputPair
 toldPiece (piece.Piece v) = given (record { output = v .«num_output_samples»; total = v .«num_total_samples» })
 toldPiece piece.Nothing = none
 toldPiece (piece.Refused n) = refused n
+
+abbrev pub toldLength : LengthCheck → Answer Unit
+toldLength check.Enough = given tt
+toldLength (check.Refused n) = refused n
+
+-- 55, then 40 under n bytes
+pub record GivesLength (s : List ℕ) (n : ℕ) (r : LengthCheck) : Type 0 where
+  pub told : toldLength r ≡ within s (refuseIf (ltb (length s) n) 40 (given tt))

@@ -2,9 +2,10 @@
 use super::AlternativeStartup;
 use super::AlternativeStartupPiece;
 use super::DecodedAlst;
+use super::LengthCheck;
 use super::ReadOffset;
 use super::ReadPiece;
-use base_fields::INPUT_LIMIT;
+use super::check_length;
 ghost use mathlib.Core.Path.{_≡_};
 ghost use Rattle.base_fields.specs.Answer.{within};
 ghost use Rattle.group_entries.specs.Decoded.{decodeAlst, alstOffset, alstPair};
@@ -13,11 +14,9 @@ ghost use Rattle.group_entries.specs.Told.{toldAlst, toldOffset, toldPie
 pub fn decode_alst(payload: &[u8]) -> DecodedAlst
     ensures { λ r. ⌜ toldAlst r ≡ within (now (payload .entry)) (decodeAlst (now (payload .entry))) ⌝ }
 {
-    if INPUT_LIMIT < payload.len() {
-        return DecodedAlst::Refused(55);
-    }
-    if payload.len() < 4 {
-        return DecodedAlst::Refused(40);
+    match check_length(payload, 4) {
+        LengthCheck::Enough => {}
+        LengthCheck::Refused(n) => return DecodedAlst::Refused(n),
     }
     let roll_count = base_fields::read_u16(payload, 0);
     let end = 4 + 4 * (roll_count as usize);

@@ -1,18 +1,36 @@
 // The typed entries of a sample group description (document 01, part 7; ISO/IEC 14496-12, 10).
 mod alst;
+mod plain;
 mod rash;
 
 pub use alst::alst_piece;
 pub use alst::alst_sample_offset;
 pub use alst::decode_alst;
 use base_fields::INPUT_LIMIT;
+use base_fields::fourcc;
+pub use plain::decode_prol;
+pub use plain::decode_rap;
+pub use plain::decode_roll;
+pub use plain::decode_sap;
+pub use plain::decode_tele;
+pub use plain::signed_u16;
 pub use rash::decode_rash;
 pub use rash::rash_operation_point;
 pub use rash::rash_points_end;
 ghost use mathlib.Core.Path.{_≡_};
-ghost use Rattle.base_fields.specs.Answer.{within};
-ghost use Rattle.group_entries.specs.Decoded.{signed16, decodeRoll, decodeRap, decodeTele, decodeSap};
-ghost use Rattle.group_entries.specs.Told.{toldRoll, toldRap, toldTele, toldSap};
+ghost use Rattle.group_entries.specs.Layout.{layoutOf};
+ghost use Rattle.group_entries.specs.Told.{GivesLength};
+
+// How an entry's bytes are laid out; Raw is any type that part 7 does not name.
+pub enum EntryLayout {
+    Roll,
+    Rap,
+    Tele,
+    Sap,
+    Rash,
+    Alst,
+    Raw,
+}
 
 pub struct RollRecovery {
     pub roll_distance: i16,
@@ -105,81 +123,35 @@ pub enum ReadPiece {
     Refused(u32),
 }
 
-// The signed number that 16 bits hold.
-pub fn signed_u16(x: u16) -> i16
-    ensures { λ r. ⌜ r ≡ signed16 x ⌝ }
+// Whether a payload is long enough to decode.
+enum LengthCheck {
+    Enough,
+    Refused(u32),
+}
+
+pub fn layout_of(grouping_type: u32) -> EntryLayout
+    ensures { λ r. ⌜ r ≡ layoutOf «grouping_type» ⌝ }
 {
-    if x < 32768 {
-        x as i16
-    } else {
-        -1 - ((65535 - x) as i16)
+    match grouping_type {
+        fourcc::ROLL | fourcc::PROL => EntryLayout::Roll,
+        fourcc::RAP => EntryLayout::Rap,
+        fourcc::TELE => EntryLayout::Tele,
+        fourcc::SAP => EntryLayout::Sap,
+        fourcc::RASH => EntryLayout::Rash,
+        fourcc::ALST => EntryLayout::Alst,
+        _ => EntryLayout::Raw,
     }
 }
 
-pub fn decode_roll(payload: &[u8]) -> DecodedRoll
-    ensures { λ r. ⌜ toldRoll r ≡ within (now (payload .entry)) (decodeRoll (now (payload .entry))) ⌝ }
+// 55, then 40 under `least` bytes: the first refusals of every decoder.
+fn check_length(payload: &[u8], least: usize) -> LengthCheck
+    ensures { λ r. ⌜ GivesLength (now (payload .entry)) least r ⌝ }
 {
     if INPUT_LIMIT < payload.len() {
-        return DecodedRoll::Refused(55);
+        return LengthCheck::Refused(55);
     }
-    if payload.len() < 2 {
-        return DecodedRoll::Refused(40);
+    if payload.len() < least {
+        return LengthCheck::Refused(40);
     }
-    DecodedRoll::Roll(RollRecovery {
-        roll_distance: signed_u16(base_fields::read_u16(payload, 0)),
-    })
-}
-
-// A prol has the layout of a roll.
-pub fn decode_prol(payload: &[u8]) -> DecodedRoll
-    ensures { λ r. ⌜ toldRoll r ≡ within (now (payload .entry)) (decodeRoll (now (payload .entry))) ⌝ }
-{
-    decode_roll(payload)
-}
-
-pub fn decode_rap(payload: &[u8]) -> DecodedRap
-    ensures { λ r. ⌜ toldRap r ≡ within (now (payload .entry)) (decodeRap (now (payload .entry))) ⌝ }
-{
-    if INPUT_LIMIT < payload.len() {
-        return DecodedRap::Refused(55);
-    }
-    if payload.len() < 1 {
-        return DecodedRap::Refused(40);
-    }
-    let b = base_fields::read_u8(payload, 0);
-    DecodedRap::Rap(VisualRandomAccess {
-        num_leading_samples_known: 128 <= b,
-        num_leading_samples: b % 128,
-    })
-}
-
-pub fn decode_tele(payload: &[u8]) -> DecodedTele
-    ensures { λ r. ⌜ toldTele r ≡ within (now (payload .entry)) (decodeTele (now (payload .entry))) ⌝ }
-{
-    if INPUT_LIMIT < payload.len() {
-        return DecodedTele::Refused(55);
-    }
-    if payload.len() < 1 {
-        return DecodedTele::Refused(40);
-    }
-    let b = base_fields::read_u8(payload, 0);
-    DecodedTele::Tele(TemporalLevel {
-        level_independently_decodable: 128 <= b,
-    })
-}
-
-pub fn decode_sap(payload: &[u8]) -> DecodedSap
-    ensures { λ r. ⌜ toldSap r ≡ within (now (payload .entry)) (decodeSap (now (payload .entry))) ⌝ }
-{
-    if INPUT_LIMIT < payload.len() {
-        return DecodedSap::Refused(55);
-    }
-    if payload.len() < 1 {
-        return DecodedSap::Refused(40);
-    }
-    let b = base_fields::read_u8(payload, 0);
-    DecodedSap::Sap(StreamAccessPoint {
-        dependent: 128 <= b,
-        sap_type: b % 16,
-    })
+    LengthCheck::Enough
 }

@@ -1,9 +1,10 @@
 // Rate share entries: the plain fields, and an operation point by number.
 use super::DecodedRash;
+use super::LengthCheck;
 use super::RateShare;
 use super::RateShareOperationPoint;
 use super::ReadPoint;
-use base_fields::INPUT_LIMIT;
+use super::check_length;
 ghost use mathlib.Core.Path.{_≡_};
 ghost use Prim.Native.Nat.{_+_, _*_, _≤_};
 ghost use lib.Dec.{eqb};
@@ -25,11 +26,9 @@ pub fn rash_points_end(count: u16) -> usize
 pub fn decode_rash(payload: &[u8]) -> DecodedRash
     ensures { λ r. ⌜ toldRash r ≡ within (now (payload .entry)) (decodeRash (now (payload .entry))) ⌝ }
 {
-    if INPUT_LIMIT < payload.len() {
-        return DecodedRash::Refused(55);
-    }
-    if payload.len() < 2 {
-        return DecodedRash::Refused(40);
+    match check_length(payload, 2) {
+        LengthCheck::Enough => {}
+        LengthCheck::Refused(n) => return DecodedRash::Refused(n),
     }
     let count = base_fields::read_u16(payload, 0);
     if count == 0 {

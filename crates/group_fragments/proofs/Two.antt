@@ -9,7 +9,7 @@ use Rattle.base_fields.specs.Answer.{Answer, given, none, refused, choose, andT
 use Rattle.base_fields.proofs.Answers.{Holds, holds-refuseIf, holds-choose, holds-given, andThen-assoc, andThen-same, holds-andThen}
 use Rattle.group_sgpd.specs.Sgpd.{Description, sgpd, parseSgpd, pick, entryAt}
 use Rattle.base_fields.specs.Span.{Span}
-use Rattle.group_sgpd.proofs.Lookup.{Settled, sgpd-settled, Unrefused, pick-unrefused, entry-inside}
+use Rattle.group_sgpd.proofs.ByNumber.{Settled, sgpd-settled, Unrefused, pick-unrefused, entry-inside}
 use Rattle.group_fragments.specs.Fragments.{Part, localBit, partIn, describedAt, plainIndex}
 
 -- the film's entry is asked for first, then the whole of the fragment's payload

@@ -1,5 +1,5 @@
 -- Part 9 of document 01: a film-wide sgpd and a fragment one, and bit 31 of a csgp index that picks between them.
-use Prim.Native.Nat.{ℕ, _/_, _%_}
+use Prim.Native.Nat.{ℕ, _*_, _/_, _%_}
 use mathlib.Core.Bool.{Bool, true, false}
 use mathlib.Core.List.{List, []}
 use lib.Dec.{eqb}
@@ -38,3 +38,7 @@ abbrev pub bytesOf : List ℕ → List ℕ → Answer Part → List ℕ
 bytesOf film fragment (given p) = bytesAt (choose (p .local) fragment film) (p .span)
 bytesOf film fragment none = []
 bytesOf film fragment (refused n) = []
+
+-- the rate of a point: bitrate times share over 100, rounded down
+abbrev pub rateOf : ℕ → ℕ → ℕ
+rateOf bitrate share = bitrate * share / 100

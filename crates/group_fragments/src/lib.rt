@@ -1,10 +1,9 @@
 // Film-wide and fragment descriptions, and the rate of a point (document 01, part 9).
 ghost use mathlib.Core.Path.{_≡_};
 ghost use mathlib.Core.Bool.{true, false};
-ghost use Prim.Native.Nat.{_*_, _/_};
 ghost use Rattle.base_fields.specs.Answer.{andThen};
 ghost use Rattle.group_sgpd.specs.Sgpd.{sgpd};
-ghost use Rattle.group_fragments.specs.Fragments.{localBit, partIn, describedAt, bytesOf, plainIndex};
+ghost use Rattle.group_fragments.specs.Fragments.{localBit, partIn, describedAt, bytesOf, plainIndex, rateOf};
 ghost use Rattle.group_fragments.specs.Told.{toldPart};
 use base_fields::INPUT_LIMIT;
 use base_ids::DescriptionIndex;
@@ -13,7 +12,7 @@ use group_sgpd::ParsedSgpd;
 
 // An index of a csgp in a fragment: the index alone, and whether its description is the fragment's own.
 pub struct CsgpIndex {
-    pub index: u32,
+    pub index: DescriptionIndex,
     pub fragment_local: bool,
 }
 
@@ -29,10 +28,10 @@ const LOCAL_BIT: u32 = 0x8000_0000;
 
 // Parts bit 31 from the index.
 pub fn split_csgp_index(raw: u32) -> CsgpIndex
-    ensures { λ r. ⌜ (r .index ≡ plainIndex raw) × (r .«fragment_local» ≡ localBit raw) ⌝ }
+    ensures { λ r. ⌜ (r .index .0 ≡ plainIndex raw) × (r .«fragment_local» ≡ localBit raw) ⌝ }
 {
     CsgpIndex {
-        index: raw % LOCAL_BIT,
+        index: DescriptionIndex(raw % LOCAL_BIT),
         fragment_local: raw / LOCAL_BIT % 2 == 1,
     }
 }
@@ -79,7 +78,7 @@ pub fn described_place(film: &[u8], fragment: &[u8], raw: u32) -> FoundPart
         return FoundPart::Refused(55);
     }
     let split = split_csgp_index(raw);
-    let index = DescriptionIndex(split.index);
+    let index = split.index;
     if split.fragment_local {
         return in_fragment(film, fragment, index);
     }
@@ -106,7 +105,7 @@ pub fn described<'a>(film: &'a [u8], fragment: &'a [u8], raw: u32) -> &'a [u8]
 
 // The bitrate of a point, of which a share is given in percent.
 pub fn rate_of_point(bitrate: u32, share: u16) -> u64
-    ensures { λ r. ⌜ r ≡ bitrate * share / 100 ⌝ }
+    ensures { λ r. ⌜ r ≡ rateOf bitrate share ⌝ }
 {
     (bitrate as u64) * (share as u64) / 100
 }

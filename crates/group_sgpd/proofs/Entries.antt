@@ -125,10 +125,6 @@ module _ (s : List ℕ) where
             rw (spanAt-by s p, f, le-ltb _ _ i, e) (after-fixed f n (p + k) i)
       ]
 
-  -- so n entries are given exactly where p + n * k is within the payload, and are refused by 35 elsewhere
-  pub spans-fixed : {B : Type 0} {k : ℕ} → lengthsOf s ≡ Fixed k → (n p : ℕ) → p ≤ length s → (y : Answer B) → andThen (spans n s p) (λ es. y) ≡ refuseIf (ltb (length s) (p + n * k)) 35 y
-  spans-fixed {k} f n p h y = spans-after n p y ∙ rw (after-fixed f n p h) (andThen-refuseIf (ltb (length s) (p + n * k)) 35 (given (p + n * k)) (λ q. y))
-
   abbrev noSpan : Span
   noSpan = record { place = 0; size = 0 }
 

@@ -10,17 +10,17 @@ use lib.ListN.{length}
 use Rattle.base_fields.specs.Answer.{Answer, given, refused, choose, refuseIf, inputLimit}
 use Rattle.base_fields.specs.Number.{beAt}
 use Rattle.base_fields.proofs.Answers.{Holds, holds-refuseIf, holds-given}
-use Rattle.group_sgpd.specs.Sgpd.{version, countPlace, entryCount, spans, headed, sgpd}
+use Rattle.group_sgpd.specs.Sgpd.{version, entryCount, spans, headed, sgpd, entryCountPlace}
 use Rattle.base_fields.specs.Span.{Span}
-use Rattle.group_sgpd.specs.Head.{headOf, headAt, countAt, lengthsBy, HeadOf, Among}
+use Rattle.group_sgpd.specs.Head.{headOf, headAt, lengthsBy, HeadOf, Among, entryCountAt}
 use Rattle.group_sgpd.specs.declared.Lengths.{Lengths}
 use Rattle.group_sgpd.specs.declared.SgpdHead.{SgpdHead}
 
 module _ (s : List ℕ) (short : length s ≤ inputLimit) (long : 12 ≤ length s) where
-  pub head-0 : version s ≡ 0 → headAt s ≡ countAt s (version s) 0 0 8
+  pub head-0 : version s ≡ 0 → headAt s ≡ entryCountAt s (version s) 0 0 8
   head-0 e = simp (le-ltb _ _ short, le-ltb _ _ long, e)
 
-  pub head-1 : version s ≡ 1 → headAt s ≡ countAt s (version s) (beAt 4 s 8) 0 12
+  pub head-1 : version s ≡ 1 → headAt s ≡ entryCountAt s (version s) (beAt 4 s 8) 0 12
   head-1 e = simp (le-ltb _ _ short, le-ltb _ _ long, e)
 
   module _ (later : 2 ≤ version s) where
@@ -33,7 +33,7 @@ module _ (s : List ℕ) (short : length s ≤ inputLimit) (long : 12 ≤ length 
     not-1 : version s ≡ 1 → ⊥
     not-1 e = omega arith
 
-    pub head-2 : 16 ≤ length s → headAt s ≡ countAt s (version s) (beAt 4 s 8) (beAt 4 s 12) 16
+    pub head-2 : 16 ≤ length s → headAt s ≡ entryCountAt s (version s) (beAt 4 s 8) (beAt 4 s 12) 16
     head-2 h = simp (le-ltb _ _ short, le-ltb _ _ long, le-leb _ _ later, le-leb _ _ some, ne-eqb _ _ not-0, ne-eqb _ _ not-1, le-ltb _ _ h)
 
     pub head-31 : length s < 16 → headAt s ≡ refused 31
@@ -71,7 +71,7 @@ module _ (s : List ℕ) where
   no-index = ltb (length s) (choose (leb 2 (version s)) 16 12)
 
   abbrev no-count : Bool
-  no-count = ltb (length s) (countPlace s + 4)
+  no-count = ltb (length s) (entryCountPlace s + 4)
 
   -- where something behind the fixed fields is given, they are there
   pub head-rest : {A B : Type 0} (x : Answer A) {y : A} → headed s x ≡ given y → (rest : Answer B) → headed s rest ≡ rest
@@ -97,7 +97,7 @@ module _ (s : List ℕ) where
   head-of e = let f = holds-given Sized (headAt s) sized e in record { read = e; short = f .0; inside = f .1 }
 
   abbrev entries : Answer (List Span)
-  entries = spans (entryCount s) s (countPlace s + 4)
+  entries = spans (entryCount s) s (entryCountPlace s + 4)
 
   -- the entries behind the fixed fields
   pub sgpd-spans : {h : SgpdHead} → headAt s ≡ given h → sgpd s ≡ entries
@@ -121,7 +121,7 @@ module _ {s : List ℕ} {h : SgpdHead} (o : HeadOf s h) where
   same : h ≡ headOf s
   same = head-same s (o .read)
 
-  pub first-is : h .first ≡ countPlace s + 4
+  pub first-is : h .first ≡ entryCountPlace s + 4
   first-is = ap (λ (x : SgpdHead). x .first) same
 
   pub count-is : h .«entry_count» ≡ entryCount s

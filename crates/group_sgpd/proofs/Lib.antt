@@ -1,4 +1,4 @@
-pub mod Cursor
+pub mod Onward
 pub mod Entries
 pub mod Heads
-pub mod Lookup
+pub mod ByNumber

@@ -6,7 +6,7 @@ use lib.Dec.{ltb, leb, eqb}
 use lib.ListN.{length}
 use Rattle.base_fields.specs.Answer.{Answer, given, refused, choose, refuseIf, andThen, inputLimit}
 use Rattle.base_fields.specs.Number.{beAt}
-use Rattle.group_sgpd.specs.Sgpd.{version, groupingType, defaultLength, defaultIndex, countPlace, entryCount, implicitLength, spanAt, headed, sgpd, entryAt}
+use Rattle.group_sgpd.specs.Sgpd.{version, groupingType, defaultLength, defaultIndex, entryCount, implicitLength, spanAt, headed, sgpd, entryAt, entryCountPlace}
 use Rattle.base_fields.specs.Span.{Span}
 use Rattle.group_sgpd.specs.Told.{toldEntry}
 use Rattle.group_sgpd.specs.declared.EntryCursor.{EntryCursor}
@@ -29,7 +29,7 @@ headOf s =
       «default_length» = defaultLength s;
       «default_sample_description_index» = defaultIndex s;
       «entry_count» = entryCount s;
-      first = countPlace s + 4;
+      first = entryCountPlace s + 4;
     }
 
 abbrev pub toldHead : ReadHead → Answer SgpdHead
@@ -37,8 +37,8 @@ toldHead (head.Head h) = given h
 toldHead (head.Refused n) = refused n
 
 -- the entry count at a place, behind the other fields: 32 where it is missing
-abbrev pub countAt : List ℕ → ℕ → ℕ → ℕ → ℕ → Answer SgpdHead
-countAt s v l i p =
+abbrev pub entryCountAt : List ℕ → ℕ → ℕ → ℕ → ℕ → Answer SgpdHead
+entryCountAt s v l i p =
     refuseIf (ltb (length s) (p + 4)) 32
     (given
     (record {
@@ -95,17 +95,17 @@ pub record ReadWhole (s : List ℕ) (h : SgpdHead) : Type 0 where
 
 -- a cursor at the place where its entry starts, behind those before it
 pub record OnEntry (s : List ℕ) (c : EntryCursor) : Type 0 where
-  pub number : 1 ≤ c .index
-  pub place : after (c .index - 1) s (countPlace s + 4) ≡ given (c .place)
+  pub number : 1 ≤ c .index .0
+  pub place : after (c .index .0 - 1) s (entryCountPlace s + 4) ≡ given (c .place)
 
 -- the number of the entry on which a cursor stands after entry i was asked for: i where there is one, else n as before
 abbrev pub movedTo : List ℕ → ℕ → ℕ → ℕ
 movedTo s n i = choose (eqb i 0) n (choose (ltb (entryCount s) i) n i)
 
 -- entry i, and a cursor that stands on entry n
-pub record GivesStep (s : List ℕ) (i n : ℕ) (r : EntryStep) : Type 0 where
+pub record GivesEntry (s : List ℕ) (i n : ℕ) (r : EntryStep) : Type 0 where
   pub found : toldEntry (r .found) ≡ entryAt s i
-  pub index : r .cursor .index ≡ n
+  pub index : r .cursor .index .0 ≡ n
   pub cursor : OnEntry s (r .cursor)
 
 -- a place p among the n entries of a payload, with what tells their lengths

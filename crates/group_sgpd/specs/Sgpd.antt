@@ -22,11 +22,11 @@ abbrev pub defaultIndex : List ℕ → ℕ
 defaultIndex s = choose (leb 2 (version s)) (beAt 4 s 12) 0
 
 -- the place of the entry count
-abbrev pub countPlace : List ℕ → ℕ
-countPlace s = choose (eqb (version s) 0) 8 (choose (eqb (version s) 1) 12 16)
+abbrev pub entryCountPlace : List ℕ → ℕ
+entryCountPlace s = choose (eqb (version s) 0) 8 (choose (eqb (version s) 1) 12 16)
 
 abbrev pub entryCount : List ℕ → ℕ
-entryCount s = beAt 4 s (countPlace s)
+entryCount s = beAt 4 s (entryCountPlace s)
 
 -- the length that version 0 gives the entries of a type; 0 where it gives none
 unfoldable pub implicitLength : ℕ → ℕ
@@ -68,11 +68,11 @@ headed s rest =
     within s
     (refuseIf (ltb (length s) 12) 30
     (refuseIf (ltb (length s) (choose (leb 2 (version s)) 16 12)) 31
-    (refuseIf (ltb (length s) (countPlace s + 4)) 32 rest)))
+    (refuseIf (ltb (length s) (entryCountPlace s + 4)) 32 rest)))
 
 -- the entries of an sgpd payload, read whole
 unfoldable pub sgpd : List ℕ → Answer (List Span)
-sgpd s = headed s (spans (entryCount s) s (countPlace s + 4))
+sgpd s = headed s (spans (entryCount s) s (entryCountPlace s + 4))
 
 -- what parse_sgpd answers; the default index is carried and not used
 pub record Description : Type 0 where

@@ -1,3 +1,4 @@
+-- The fronts of both entries under the layout of their type; each answer is then a law of Pairs.antt.
 use mathlib.Core.Path.{_≡_, ap, sym, _∙_}
 use Prim.Native.Nat.{ℕ, _≤_}
 use lib.ListN.{length}
@@ -5,28 +6,25 @@ use Rattle.base_fields.specs.Answer.{given}
 use Rattle.base_fields.proofs.Bits.{Bytes}
 use Rattle.group_alike.specs.Alike.{GivesAlike}
 use Rattle.group_alike.specs.declared.Alike.the-variants.{Same, Different}
-use Rattle.group_alike.specs.declared.EntryLayout.{EntryLayout}
-use Rattle.group_alike.specs.Front.{layoutOf, toldFront, Agree}
+use Rattle.group_entries.specs.declared.EntryLayout.{EntryLayout}
+use Rattle.group_alike.specs.Front.{Agree, toldFrontSize}
+use Rattle.group_entries.specs.Layout.{layoutOf}
 use Rattle.group_alike.specs.declared.Front.{Front}
-use Rattle.group_alike.proofs.Pairs.{FrontIs, reach, first-long, second-long, first-refused, second-refused, are-same, are-different}
+use Rattle.group_alike.proofs.Fronts.{FrontIs, reach}
+use Rattle.group_alike.proofs.Pairs.{first-long, second-long, first-refused, second-refused, are-same, are-different}
 use borrow.Author.Needs.{needs}
 use Rattle.group_alike.proofs.decode_alike.Statement.{statement}
 use Rattle.group_alike.proofs.decode_alike.Tie as tie
-use Rattle.group_alike.proofs.decode_alike.Reads as reads
-use Rattle.group_alike.proofs.decode_alike.Lts as lts
-use Rattle.group_alike.proofs.front_of.Reads as front-of-reads
-use Rattle.group_alike.proofs.layout_of.Reads as layout-of-reads
-use Rattle.group_alike.proofs.same_front.Reads as same-front-reads
 
 -- the fronts under the grouping type's layout
 first : (c : tie.After-front-of) (r : Front) → c .front-of .result ≡ r
-    → FrontIs (toldFront r) (layoutOf (c .before .before .before .before .before .before .args .grouping-type)) (c .before .before .before .before .before .before .args .a .now)
-first c r e = rw (c .before .layout-of .ensures) at (ap toldFront (sym e) ∙ c .front-of .ensures)
+    → FrontIs (toldFrontSize r) (layoutOf (c .before .before .before .before .before .before .args .grouping-type)) (c .before .before .before .before .before .before .args .a .now)
+first c r e = rw (c .before .layout-of .ensures) at (ap toldFrontSize (sym e) ∙ c .front-of .ensures)
 
 second : (c : tie.After-front-of2) (r : Front) → c .front-of2 .result ≡ r
     → let s = c .before .before .before .before .before .before .before .before .before .before in
-    FrontIs (toldFront r) (layoutOf (s .args .grouping-type)) (s .args .b .now)
-second c r e = rw (c .before .before .before .before .before .layout-of .ensures) at (ap toldFront (sym e) ∙ c .front-of2 .ensures)
+    FrontIs (toldFrontSize r) (layoutOf (s .args .grouping-type)) (s .args .b .now)
+second c r e = rw (c .before .before .before .before .before .layout-of .ensures) at (ap toldFrontSize (sym e) ∙ c .front-of2 .ensures)
 
 -- where both fronts are known
 module _ (c : tie.After-k2) where

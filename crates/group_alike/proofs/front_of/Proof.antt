@@ -1,21 +1,20 @@
-use mathlib.Core.Path.{refl, ap, sym, _∙_}
-use Rattle.group_entries.specs.Decoded.{rollOf, rapOf, teleOf, sapOf, rashOf, alstOf, decodeRoll, decodeRap, decodeTele, decodeSap, decodeRash, decodeAlst, pointAt, offsetAt, pairAt, upTo}
-use Rattle.group_entries.specs.Told.{toldRoll, toldRap, toldTele, toldSap, toldRash, toldAlst}
+-- Each arm is the front of its layout, from the decoder's answer: `arm` at the place where the match on the layout began.
+use mathlib.Core.Path.{_≡_, refl, ap, sym, _∙_}
+use Rattle.base_fields.specs.Answer.{given, andThen, within}
+use Rattle.group_entries.specs.Told.{toldRash}
+use Rattle.group_entries.specs.declared.EntryLayout.{EntryLayout}
+use Rattle.group_entries.specs.declared.EntryLayout.the-variants.{Roll, Rap, Tele, Sap, Rash, Alst}
 use Rattle.group_entries.proofs.Extent.{rash-extent}
-use Rattle.group_alike.specs.declared.EntryLayout.the-variants.{Roll, Rap, Tele, Sap, Rash, Alst}
-use Rattle.group_alike.proofs.Values.{front-told}
+use Rattle.group_alike.specs.Front.{frontSize}
+use Rattle.group_alike.proofs.Fronts.{decoderOf, FrontIs, front-told}
 use borrow.Author.Needs.{needs}
 use Rattle.group_alike.proofs.front_of.Statement.{statement}
 use Rattle.group_alike.proofs.front_of.Tie as tie
-use Rattle.group_alike.proofs.front_of.Reads as reads
-use Rattle.group_alike.proofs.front_of.Lts as lts
-use Rattle.group_entries.proofs.decode_alst.Reads as decode-alst-reads
-use Rattle.group_entries.proofs.decode_rap.Reads as decode-rap-reads
-use Rattle.group_entries.proofs.decode_roll.Reads as decode-roll-reads
-use Rattle.group_entries.proofs.decode_sap.Reads as decode-sap-reads
-use Rattle.group_entries.proofs.decode_tele.Reads as decode-tele-reads
-use Rattle.group_entries.proofs.decode_rash.Reads as decode-rash-reads
-use Rattle.group_entries.proofs.rash_points_end.Reads as rash-points-end-reads
+
+arm : (m : EntryLayout) (c : tie.Start) {y r : decoderOf m .Returned} → c .args .layout ≡ m
+    → let s = c .args .s .now in
+    decoderOf m .told y ≡ within s (decoderOf m .decoded s) → y ≡ r → FrontIs (andThen (decoderOf m .told r) (λ u. given (frontSize m s))) (c .args .layout) s
+arm m c p e q = front-told m _ (c .pre) p e q
 
 enum-told : tie.Need-enum-told
 enum-told c = search needs
@@ -99,79 +98,44 @@ enum-told-12 : tie.Need-enum-told-12
 enum-told-12 c = search needs
 
 returns : tie.Need-returns
-returns c =
-    let b = c .before .before in
-    let s = b .before .before .before .before .args .s .now in
-    front-told toldRoll Roll s (decodeRoll s) rollOf refl (b .before .enum-told .given .1) (b .before .before .before .before .pre) (b .decode-roll .ensures) (c .enum-told2 .given .1)
+returns c = let b = c .before .before in arm Roll (b .before .before .before .before) (b .before .enum-told .given .1) (b .decode-roll .ensures) (c .enum-told2 .given .1)
 
 returns-2 : tie.Need-returns-2
-returns-2 c =
-    let b = c .before .before .before in
-    let s = b .before .before .before .before .args .s .now in
-    front-told toldRoll Roll s (decodeRoll s) rollOf refl (b .before .enum-told .given .1) (b .before .before .before .before .pre) (b .decode-roll .ensures) (c .before .n .given .1)
+returns-2 c = let b = c .before .before .before in arm Roll (b .before .before .before .before) (b .before .enum-told .given .1) (b .decode-roll .ensures) (c .before .n .given .1)
 
 returns-3 : tie.Need-returns-3
-returns-3 c =
-    let b = c .before .before in
-    let s = b .before .before .before .before .args .s .now in
-    front-told toldRap Rap s (decodeRap s) rapOf refl (b .before .enum-told3 .given .1) (b .before .before .before .before .pre) (b .decode-rap .ensures) (c .enum-told4 .given .1)
+returns-3 c = let b = c .before .before in arm Rap (b .before .before .before .before) (b .before .enum-told3 .given .1) (b .decode-rap .ensures) (c .enum-told4 .given .1)
 
 returns-4 : tie.Need-returns-4
-returns-4 c =
-    let b = c .before .before .before in
-    let s = b .before .before .before .before .args .s .now in
-    front-told toldRap Rap s (decodeRap s) rapOf refl (b .before .enum-told3 .given .1) (b .before .before .before .before .pre) (b .decode-rap .ensures) (c .before .n2 .given .1)
+returns-4 c = let b = c .before .before .before in arm Rap (b .before .before .before .before) (b .before .enum-told3 .given .1) (b .decode-rap .ensures) (c .before .n2 .given .1)
 
 returns-5 : tie.Need-returns-5
-returns-5 c =
-    let b = c .before .before in
-    let s = b .before .before .before .before .args .s .now in
-    front-told toldTele Tele s (decodeTele s) teleOf refl (b .before .enum-told5 .given .1) (b .before .before .before .before .pre) (b .decode-tele .ensures) (c .enum-told6 .given .1)
+returns-5 c = let b = c .before .before in arm Tele (b .before .before .before .before) (b .before .enum-told5 .given .1) (b .decode-tele .ensures) (c .enum-told6 .given .1)
 
 returns-6 : tie.Need-returns-6
-returns-6 c =
-    let b = c .before .before .before in
-    let s = b .before .before .before .before .args .s .now in
-    front-told toldTele Tele s (decodeTele s) teleOf refl (b .before .enum-told5 .given .1) (b .before .before .before .before .pre) (b .decode-tele .ensures) (c .before .n3 .given .1)
+returns-6 c = let b = c .before .before .before in arm Tele (b .before .before .before .before) (b .before .enum-told5 .given .1) (b .decode-tele .ensures) (c .before .n3 .given .1)
 
 returns-7 : tie.Need-returns-7
-returns-7 c =
-    let b = c .before .before in
-    let s = b .before .before .before .before .args .s .now in
-    front-told toldSap Sap s (decodeSap s) sapOf refl (b .before .enum-told7 .given .1) (b .before .before .before .before .pre) (b .decode-sap .ensures) (c .enum-told8 .given .1)
+returns-7 c = let b = c .before .before in arm Sap (b .before .before .before .before) (b .before .enum-told7 .given .1) (b .decode-sap .ensures) (c .enum-told8 .given .1)
 
 returns-8 : tie.Need-returns-8
-returns-8 c =
-    let b = c .before .before .before in
-    let s = b .before .before .before .before .args .s .now in
-    front-told toldSap Sap s (decodeSap s) sapOf refl (b .before .enum-told7 .given .1) (b .before .before .before .before .pre) (b .decode-sap .ensures) (c .before .n4 .given .1)
+returns-8 c = let b = c .before .before .before in arm Sap (b .before .before .before .before) (b .before .enum-told7 .given .1) (b .decode-sap .ensures) (c .before .n4 .given .1)
 
 returns-9 : tie.Need-returns-9
 returns-9 c =
     let b = c .before .before .before .before in
-    let s = b .before .before .before .before .args .s .now in
     let e = c .before .before .v .given .1 in
-    let x = rash-extent s (ap toldRash (sym e) ∙ b .decode-rash .ensures) in
-    rw (c .rash-points-end .ensures .0, x .points)
-    (front-told toldRash Rash s (decodeRash s) (λ r. rashOf r (upTo (pointAt s) 0 (r .points))) refl (b .before .enum-told9 .given .1) (b .before .before .before .before .pre) (b .decode-rash .ensures) e)
+    let x = rash-extent {s = b .before .before .before .before .args .s .now} (record { told = ap toldRash (sym e) ∙ b .decode-rash .ensures }) in
+    rw (c .rash-points-end .ensures .0, x .points) (arm Rash (b .before .before .before .before) (b .before .enum-told9 .given .1) (b .decode-rash .ensures) e)
 
 returns-10 : tie.Need-returns-10
-returns-10 c =
-    let b = c .before .before .before in
-    let s = b .before .before .before .before .args .s .now in
-    front-told toldRash Rash s (decodeRash s) (λ r. rashOf r (upTo (pointAt s) 0 (r .points))) refl (b .before .enum-told9 .given .1) (b .before .before .before .before .pre) (b .decode-rash .ensures) (c .before .n5 .given .1)
+returns-10 c = let b = c .before .before .before in arm Rash (b .before .before .before .before) (b .before .enum-told9 .given .1) (b .decode-rash .ensures) (c .before .n5 .given .1)
 
 returns-11 : tie.Need-returns-11
-returns-11 c =
-    let b = c .before .before in
-    let s = b .before .before .before .before .args .s .now in
-    front-told toldAlst Alst s (decodeAlst s) (λ a. alstOf a (upTo (offsetAt s) 0 (a .rollCount)) (upTo (pairAt s) 0 (a .pairs))) refl (b .before .enum-told10 .given .1) (b .before .before .before .before .pre) (b .decode-alst .ensures) (c .enum-told11 .given .1)
+returns-11 c = let b = c .before .before in arm Alst (b .before .before .before .before) (b .before .enum-told10 .given .1) (b .decode-alst .ensures) (c .enum-told11 .given .1)
 
 returns-12 : tie.Need-returns-12
-returns-12 c =
-    let b = c .before .before .before in
-    let s = b .before .before .before .before .args .s .now in
-    front-told toldAlst Alst s (decodeAlst s) (λ a. alstOf a (upTo (offsetAt s) 0 (a .rollCount)) (upTo (pairAt s) 0 (a .pairs))) refl (b .before .enum-told10 .given .1) (b .before .before .before .before .pre) (b .decode-alst .ensures) (c .before .n6 .given .1)
+returns-12 c = let b = c .before .before .before in arm Alst (b .before .before .before .before) (b .before .enum-told10 .given .1) (b .decode-alst .ensures) (c .before .n6 .given .1)
 
 returns-13 : tie.Need-returns-13
 returns-13 c = rw (c .enum-told12 .given .1) refl

@@ -6,9 +6,6 @@ use borrow.Author.Needs.{needs}
 use Rattle.group_alike.specs.Front.{Agree}
 use Rattle.group_alike.proofs.same_front.Statement.{statement}
 use Rattle.group_alike.proofs.same_front.Tie as tie
-use Rattle.group_alike.proofs.same_front.Reads as reads
-use Rattle.group_alike.proofs.same_front.Lts as lts
-use Rattle.group_alike.proofs.significant.Reads as significant-reads
 
 abbrev Inv-loop : tie.InvT-loop
 Inv-loop layout a b n i₀ i = (i ≤ n) × Agree layout a b i

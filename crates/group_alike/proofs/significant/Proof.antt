@@ -2,8 +2,6 @@ use mathlib.Core.Path.{refl}
 use borrow.Author.Needs.{needs}
 use Rattle.group_alike.proofs.significant.Statement.{statement}
 use Rattle.group_alike.proofs.significant.Tie as tie
-use Rattle.group_alike.proofs.significant.Reads as reads
-use Rattle.group_alike.proofs.significant.Lts as lts
 
 enum-told : tie.Need-enum-told
 enum-told c = search needs

@@ -1,3 +1,4 @@
+-- By the answer of `described_place`: the part of the payload that has it, else an empty part.
 use lib.ListN.{length}
 use Rattle.group_fragments.proofs.Two.{described-inside}
 use Rattle.group_fragments.specs.Told.{toldPart}
@@ -10,9 +11,6 @@ use mathlib.Core.Path.{_≡_, refl, ap, sym, _∙_}
 use borrow.Author.Needs.{needs}
 use Rattle.group_fragments.proofs.described.Statement.{statement}
 use Rattle.group_fragments.proofs.described.Tie as tie
-use Rattle.group_fragments.proofs.described.Reads as reads
-use Rattle.group_fragments.proofs.described.Lts as lts
-use Rattle.group_fragments.proofs.described_place.Reads as described-place-reads
 
 -- the entry that was found
 film-found : (c : tie.After-at) → let a = c .before .before .before .before .before .args in describedAt (a .film .now) (a .fragment .now) (a .raw) ≡ given (record { local = false; span = record { place = c .at .given .0 .0; size = c .at .given .0 .1 .0 } })

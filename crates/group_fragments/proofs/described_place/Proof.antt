@@ -1,3 +1,4 @@
+-- 55 of either payload, then the payload that bit 31 picks.
 use Rattle.group_fragments.specs.Fragments.{localBit}
 use mathlib.Core.Bool.{true, false}
 use mathlib.Core.Path.{_≡_, sym, _∙_}
@@ -5,11 +6,6 @@ use borrow.Author.Tests.{lt-ltb, le-ltb}
 use borrow.Author.Needs.{needs}
 use Rattle.group_fragments.proofs.described_place.Statement.{statement}
 use Rattle.group_fragments.proofs.described_place.Tie as tie
-use Rattle.group_fragments.proofs.described_place.Reads as reads
-use Rattle.group_fragments.proofs.described_place.Lts as lts
-use Rattle.group_fragments.proofs.in_film.Reads as in-film-reads
-use Rattle.group_fragments.proofs.in_fragment.Reads as in-fragment-reads
-use Rattle.group_fragments.proofs.split_csgp_index.Reads as split-csgp-index-reads
 
 returns : tie.Need-returns
 returns c = simp (lt-ltb _ _ (c .if1 .taken))
@@ -25,20 +21,20 @@ in-fragment-requires c κs = search needs
 
 returns-3 : tie.Need-returns-3
 returns-3 c =
-    let d = c .before .before in
-    let a = d .before .before .before .before .before .args in
-    let b : localBit (a .raw) ≡ true = sym (d .split-csgp-index .ensures .1) ∙ c .before .if3 .taken in
-    c .in-fragment .ensures ∙ simp (le-ltb _ _ (d .before .before .if1 .left), le-ltb _ _ (d .before .if2 .left), b, d .split-csgp-index .ensures .0)
+    let split = c .before .before .before in
+    let a = split .before .before .before .before .before .args in
+    let b : localBit (a .raw) ≡ true = sym (split .split-csgp-index .ensures .1) ∙ c .before .if3 .taken in
+    c .in-fragment .ensures ∙ simp (le-ltb _ _ (split .before .before .if1 .left), le-ltb _ _ (split .before .if2 .left), b, split .split-csgp-index .ensures .0)
 
 in-film-requires : tie.Need-in-film-requires
 in-film-requires c κs = search needs
 
 returns-4 : tie.Need-returns-4
 returns-4 c =
-    let d = c .before .before in
-    let a = d .before .before .before .before .before .args in
-    let b : localBit (a .raw) ≡ false = sym (d .split-csgp-index .ensures .1) ∙ c .before .if3 .left in
-    c .in-film .ensures ∙ simp (le-ltb _ _ (d .before .before .if1 .left), le-ltb _ _ (d .before .if2 .left), b, d .split-csgp-index .ensures .0)
+    let split = c .before .before .before in
+    let a = split .before .before .before .before .before .args in
+    let b : localBit (a .raw) ≡ false = sym (split .split-csgp-index .ensures .1) ∙ c .before .if3 .left in
+    c .in-film .ensures ∙ simp (le-ltb _ _ (split .before .before .if1 .left), le-ltb _ _ (split .before .if2 .left), b, split .split-csgp-index .ensures .0)
 
 pub described-place-spec : {M : Type 1} → statement M
 described-place-spec =

@@ -1,13 +1,10 @@
+-- The film's answer first, then the fragment's refusals (`film-first`).
 use Rattle.group_fragments.proofs.Two.{film-first}
 use Rattle.group_sgpd.specs.Told.{toldSgpd, toldEntry}
 use mathlib.Core.Path.{refl, ap, sym, _∙_}
 use borrow.Author.Needs.{needs}
 use Rattle.group_fragments.proofs.in_film.Statement.{statement}
 use Rattle.group_fragments.proofs.in_film.Tie as tie
-use Rattle.group_fragments.proofs.in_film.Reads as reads
-use Rattle.group_fragments.proofs.in_film.Lts as lts
-use Rattle.group_sgpd.proofs.entry_place.Reads as entry-place-reads
-use Rattle.group_sgpd.proofs.parse_sgpd.Reads as parse-sgpd-reads
 
 entry-place-requires : tie.Need-entry-place-requires
 entry-place-requires c κs = search needs

@@ -1,13 +1,10 @@
+-- The film's refusals first, then the fragment's answer (`fragment-last`).
 use Rattle.group_fragments.proofs.Two.{fragment-last}
 use Rattle.group_sgpd.specs.Told.{toldSgpd, toldEntry}
 use mathlib.Core.Path.{refl, ap, sym, _∙_}
 use borrow.Author.Needs.{needs}
 use Rattle.group_fragments.proofs.in_fragment.Statement.{statement}
 use Rattle.group_fragments.proofs.in_fragment.Tie as tie
-use Rattle.group_fragments.proofs.in_fragment.Reads as reads
-use Rattle.group_fragments.proofs.in_fragment.Lts as lts
-use Rattle.group_sgpd.proofs.entry_place.Reads as entry-place-reads
-use Rattle.group_sgpd.proofs.parse_sgpd.Reads as parse-sgpd-reads
 
 parse-sgpd-requires : tie.Need-parse-sgpd-requires
 parse-sgpd-requires c κs = search needs

@@ -4,8 +4,6 @@ use native.Mathlib.Omega.{arith}
 use borrow.Author.Needs.{needs}
 use Rattle.group_fragments.proofs.rate_of_point.Statement.{statement}
 use Rattle.group_fragments.proofs.rate_of_point.Tie as tie
-use Rattle.group_fragments.proofs.rate_of_point.Reads as reads
-use Rattle.group_fragments.proofs.rate_of_point.Lts as lts
 
 mul-result : tie.Need-mul-result
 mul-result c =

@@ -7,9 +7,6 @@ use mathlib.Core.Path.{ap, sym, _∙_}
 use borrow.Author.Needs.{needs}
 use Rattle.group_sgpd.proofs.parse_sgpd.Statement.{statement}
 use Rattle.group_sgpd.proofs.parse_sgpd.Tie as tie
-use Rattle.group_sgpd.proofs.parse_sgpd.Reads as reads
-use Rattle.group_sgpd.proofs.parse_sgpd.Lts as lts
-use Rattle.group_sgpd.proofs.read_sgpd.Reads as read-sgpd-reads
 
 read-sgpd-requires : tie.Need-read-sgpd-requires
 read-sgpd-requires c κs = search needs

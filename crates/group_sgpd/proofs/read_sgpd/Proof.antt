@@ -1,5 +1,6 @@
+-- The head, then the place behind all entries: where there is one, the payload is whole.
 use Prim.Native.Nat.{_+_}
-use Rattle.group_sgpd.specs.Sgpd.{entryCount, countPlace}
+use Rattle.group_sgpd.specs.Sgpd.{entryCount, entryCountPlace}
 use Rattle.base_fields.specs.Answer.{given}
 use Rattle.group_sgpd.proofs.Entries.{spans-after}
 use Rattle.group_sgpd.proofs.Heads.{head-of, head-same, sgpd-spans, sgpd-refused}
@@ -8,10 +9,6 @@ use mathlib.Core.Path.{ap, sym, _∙_, _≡_, refl}
 use borrow.Author.Needs.{needs}
 use Rattle.group_sgpd.proofs.read_sgpd.Statement.{statement}
 use Rattle.group_sgpd.proofs.read_sgpd.Tie as tie
-use Rattle.group_sgpd.proofs.read_sgpd.Reads as reads
-use Rattle.group_sgpd.proofs.read_sgpd.Lts as lts
-use Rattle.group_sgpd.proofs.sgpd_head.Reads as sgpd-head-reads
-use Rattle.group_sgpd.proofs.skip_all.Reads as skip-all-reads
 
 sgpd-head-requires : tie.Need-sgpd-head-requires
 sgpd-head-requires c κs = search needs
@@ -45,14 +42,14 @@ returns-2 c =
     let d = c .before .before .before .before in
     let s = d .before .before .before .before .args .s .now in
     let e = ap toldMove (sym (c .enum-told .given .1)) ∙ c .before .before .skip-all .ensures in
-    rw (sgpd-spans s (read d), spans-after s (entryCount s) (countPlace s + 4) (given (headOf s)), ← e) (ap given (head-same s (read d)))
+    rw (sgpd-spans s (read d), spans-after s (entryCount s) (entryCountPlace s + 4) (given (headOf s)), ← e) (ap given (head-same s (read d)))
 
 returns-3 : tie.Need-returns-3
 returns-3 c =
     let d = c .before .before .before .before .before in
     let s = d .before .before .before .before .args .s .now in
     let e = ap toldMove (sym (c .before .n2 .given .1)) ∙ c .before .before .before .skip-all .ensures in
-    rw (sgpd-spans s (read d), spans-after s (entryCount s) (countPlace s + 4) (given (headOf s)), ← e) refl
+    rw (sgpd-spans s (read d), spans-after s (entryCount s) (entryCountPlace s + 4) (given (headOf s)), ← e) refl
 
 pub read-sgpd-spec : {M : Type 1} → statement M
 read-sgpd-spec =

@@ -2,8 +2,6 @@ use borrow.Author.Tests.{eq-eqb, ne-eqb}
 use borrow.Author.Needs.{needs}
 use Rattle.group_entries.proofs.rash.rash_points_end.Statement.{statement}
 use Rattle.group_entries.proofs.rash.rash_points_end.Tie as tie
-use Rattle.group_entries.proofs.rash.rash_points_end.Reads as reads
-use Rattle.group_entries.proofs.rash.rash_points_end.Lts as lts
 
 mul-result : tie.Need-mul-result
 mul-result c = search needs
