@@ -1,8 +1,7 @@
 // The C interface: group descriptions, film-wide and of a fragment, and the rate of a point.
 ghost use mathlib.Core.Path.{_≡_};
-ghost use Prim.Native.Nat.{_*_, _/_};
 ghost use Rattle.base_fields.specs.Answer.{given};
-ghost use Rattle.group_fragments.specs.Fragments.{describedAt};
+ghost use Rattle.group_fragments.specs.Fragments.{describedAt, rateOf};
 ghost use Rattle.group_sgpd.specs.Sgpd.{parseSgpd, entryAt};
 ghost use Rattle.film_status.specs.Status.{Returns};
 ghost use Rattle.film_descriptions.specs.Descriptions.{descriptionNumbers, spanNumbers, partNumbers, splitNumbers};
@@ -55,7 +54,7 @@ pub extern "C" fn film_split_csgp_index(raw: u32, out: &mut [u64; 2]) -> u32
     ensures { λ r. ⌜ Returns (given raw) splitNumbers (now (out .entry)) (now (out .exit)) r ⌝ }
 {
     let split = group_fragments::split_csgp_index(raw);
-    out[0] = split.index as u64;
+    out[0] = split.index.0 as u64;
     out[1] = bit_of(split.fragment_local);
     0
 }
@@ -92,7 +91,7 @@ pub extern "C" fn film_described_place(
 // The bitrate of a point, of which a share is given in percent.
 #[no_mangle]
 pub extern "C" fn film_rate_of_point(bitrate: u32, share: u16) -> u64
-    ensures { λ r. ⌜ r ≡ bitrate * share / 100 ⌝ }
+    ensures { λ r. ⌜ r ≡ rateOf bitrate share ⌝ }
 {
     group_fragments::rate_of_point(bitrate, share)
 }

@@ -6,7 +6,7 @@ use Rattle.table_rows.specs.Row.{rowsOf, covered, indexAt}
 use Rattle.table_rows.specs.Pattern.{indexIn, samplesFrom, samplesOf}
 use Rattle.table_replay.specs.Replay.{enter, replay}
 use Rattle.table_sbgp.specs.Sbgp.{readRows, sbgp}
-use Rattle.table_patterns.specs.Csgp.{widthOf, readPairs, readIndices, readPatterns, csgp}
+use Rattle.table_csgp_head.specs.Csgp.{widthOf, readPairs, readIndices, readPatterns, csgp}
 use Rattle.group_entries.specs.Decoded.{signed16, decodeRoll, decodeRash, decodeAlst}
 use Rattle.group_sgpd.specs.Sgpd.{implicitLength, spanAt, spans, sgpd}
 use Rattle.test_starred.specs.Case.{AllHold}

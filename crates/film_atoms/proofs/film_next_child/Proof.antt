@@ -1,11 +1,6 @@
 use borrow.Author.Needs.{needs}
 use Rattle.film_atoms.proofs.film_next_child.Statement.{statement}
 use Rattle.film_atoms.proofs.film_next_child.Tie as tie
-use Rattle.film_atoms.proofs.film_next_child.Reads as reads
-use Rattle.film_atoms.proofs.film_next_child.Lts as lts
-use Rattle.atom_tree.proofs.next_child.Reads as next-child-reads
-use Rattle.film_atoms.proofs.parent_end.Reads as parent-end-reads
-use Rattle.film_atoms.proofs.put_child.Reads as put-child-reads
 
 parent-end-requires : tie.Need-parent-end-requires
 parent-end-requires c κs = search needs

@@ -1,10 +1,6 @@
 use borrow.Author.Needs.{needs}
 use Rattle.film_atoms.proofs.film_read_atom_header.Statement.{statement}
 use Rattle.film_atoms.proofs.film_read_atom_header.Tie as tie
-use Rattle.film_atoms.proofs.film_read_atom_header.Reads as reads
-use Rattle.film_atoms.proofs.film_read_atom_header.Lts as lts
-use Rattle.atom_tree.proofs.read_atom_header.Reads as read-atom-header-reads
-use Rattle.film_atoms.proofs.put_header.Reads as put-header-reads
 
 read-atom-header-requires : tie.Need-read-atom-header-requires
 read-atom-header-requires c κs = search needs

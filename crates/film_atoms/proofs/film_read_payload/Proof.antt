@@ -1,10 +1,6 @@
 use borrow.Author.Needs.{needs}
 use Rattle.film_atoms.proofs.film_read_payload.Statement.{statement}
 use Rattle.film_atoms.proofs.film_read_payload.Tie as tie
-use Rattle.film_atoms.proofs.film_read_payload.Reads as reads
-use Rattle.film_atoms.proofs.film_read_payload.Lts as lts
-use Rattle.atom_tree.proofs.read_payload.Reads as read-payload-reads
-use Rattle.film_atoms.proofs.put_payload.Reads as put-payload-reads
 
 read-payload-requires : tie.Need-read-payload-requires
 read-payload-requires c κs = search needs

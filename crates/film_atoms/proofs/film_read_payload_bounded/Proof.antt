@@ -1,10 +1,6 @@
 use borrow.Author.Needs.{needs}
 use Rattle.film_atoms.proofs.film_read_payload_bounded.Statement.{statement}
 use Rattle.film_atoms.proofs.film_read_payload_bounded.Tie as tie
-use Rattle.film_atoms.proofs.film_read_payload_bounded.Reads as reads
-use Rattle.film_atoms.proofs.film_read_payload_bounded.Lts as lts
-use Rattle.atom_tree.proofs.read_payload_bounded.Reads as read-payload-bounded-reads
-use Rattle.film_atoms.proofs.put_payload.Reads as put-payload-reads
 
 read-payload-bounded-requires : tie.Need-read-payload-bounded-requires
 read-payload-bounded-requires c κs = search needs

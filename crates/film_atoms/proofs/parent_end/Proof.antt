@@ -2,8 +2,6 @@ use borrow.Author.Tests.{eq-eqb, ne-eqb}
 use borrow.Author.Needs.{needs}
 use Rattle.film_atoms.proofs.parent_end.Statement.{statement}
 use Rattle.film_atoms.proofs.parent_end.Tie as tie
-use Rattle.film_atoms.proofs.parent_end.Reads as reads
-use Rattle.film_atoms.proofs.parent_end.Lts as lts
 
 returns : tie.Need-returns
 returns c = simp (eq-eqb _ _ (c .if1 .taken))

@@ -1,11 +1,10 @@
+-- Each arm returns the status and stores the numbers of the variant that it matched: the law `returned`.
 use mathlib.Core.Path.{refl}
+use Rattle.atom_tree.specs.Told.{toldHeader}
+use Rattle.film_status.proofs.Returned.{returned}
 use borrow.Author.Needs.{needs}
 use Rattle.film_atoms.proofs.put_header.Statement.{statement}
 use Rattle.film_atoms.proofs.put_header.Tie as tie
-use Rattle.film_atoms.proofs.put_header.Reads as reads
-use Rattle.film_atoms.proofs.put_header.Lts as lts
-use Rattle.film_atoms.proofs.open_flag.Reads as open-flag-reads
-use Rattle.film_atoms.proofs.size_or_zero.Reads as size-or-zero-reads
 
 enum-known-read : tie.Need-enum-known-read
 enum-known-read c = search needs
@@ -41,7 +40,7 @@ enum-known-read-2 : tie.Need-enum-known-read-2
 enum-known-read-2 c = search needs
 
 returns : tie.Need-returns
-returns c = rw (c .before .before .before .before .read .given .1) (record { status = refl; out = rw (c .size-or-zero .ensures, c .before .open-flag .ensures) refl })
+returns c = rw (c .size-or-zero .ensures, c .before .open-flag .ensures) (returned toldHeader refl (c .before .before .before .before .read .given .1))
 
 returns-2 : tie.Need-returns-2
 returns-2 c = search needs

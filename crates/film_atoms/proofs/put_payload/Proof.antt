@@ -1,9 +1,10 @@
+-- Each arm returns the status and stores the numbers of the variant that it matched: the law `returned`.
 use mathlib.Core.Path.{refl}
+use Rattle.atom_tree.specs.Told.{toldPayload}
+use Rattle.film_status.proofs.Returned.{returned}
 use borrow.Author.Needs.{needs}
 use Rattle.film_atoms.proofs.put_payload.Statement.{statement}
 use Rattle.film_atoms.proofs.put_payload.Tie as tie
-use Rattle.film_atoms.proofs.put_payload.Reads as reads
-use Rattle.film_atoms.proofs.put_payload.Lts as lts
 
 enum-known-body : tie.Need-enum-known-body
 enum-known-body c = search needs
@@ -21,7 +22,7 @@ enum-known-body-2 : tie.Need-enum-known-body-2
 enum-known-body-2 c = search needs
 
 returns : tie.Need-returns
-returns c = rw (c .before .body .given .1) (record { status = refl; out = refl })
+returns c = returned toldPayload refl (c .before .body .given .1)
 
 returns-2 : tie.Need-returns-2
 returns-2 c = search needs

@@ -1,10 +1,9 @@
-use mathlib.Core.Path.{refl}
+-- Each arm returns the status and stores the numbers of the variant that it matched: the law `returned`.
+use Rattle.group_fragments.specs.Told.{toldPart}
+use Rattle.film_status.proofs.Returned.{returned}
 use borrow.Author.Needs.{needs}
 use Rattle.film_descriptions.proofs.film_described_place.Statement.{statement}
 use Rattle.film_descriptions.proofs.film_described_place.Tie as tie
-use Rattle.film_descriptions.proofs.film_described_place.Reads as reads
-use Rattle.film_descriptions.proofs.film_described_place.Lts as lts
-use Rattle.group_fragments.proofs.described_place.Reads as described-place-reads
 
 described-place-requires : tie.Need-described-place-requires
 described-place-requires c κs = search needs
@@ -40,16 +39,16 @@ enum-known-read-3 : tie.Need-enum-known-read-3
 enum-known-read-3 c = search needs
 
 returns : tie.Need-returns
-returns c = rw (← c .before .before .before .described-place .ensures) (rw (c .before .read .given .1) (record { status = refl; out = refl }))
+returns c = returned toldPart (c .before .before .before .described-place .ensures) (c .before .read .given .1)
 
 returns-2 : tie.Need-returns-2
-returns-2 c = rw (← c .before .before .before .described-place .ensures) (rw (c .before .read2 .given .1) (record { status = refl; out = refl }))
+returns-2 c = returned toldPart (c .before .before .before .described-place .ensures) (c .before .read2 .given .1)
 
 returns-3 : tie.Need-returns-3
-returns-3 c = rw (← c .before .before .described-place .ensures) (rw (c .enum-told .given .1) (record { status = refl; out = refl }))
+returns-3 c = returned toldPart (c .before .before .described-place .ensures) (c .enum-told .given .1)
 
 returns-4 : tie.Need-returns-4
-returns-4 c = rw (← c .before .before .before .described-place .ensures) (rw (c .before .read3 .given .1) (record { status = refl; out = refl }))
+returns-4 c = returned toldPart (c .before .before .before .described-place .ensures) (c .before .read3 .given .1)
 
 pub film-described-place-spec : {M : Type 1} → statement M
 film-described-place-spec =

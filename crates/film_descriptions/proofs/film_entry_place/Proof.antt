@@ -1,10 +1,9 @@
-use mathlib.Core.Path.{refl}
+-- Each arm returns the status and stores the numbers of the variant that it matched: the law `returned`.
+use Rattle.group_sgpd.specs.Told.{toldEntry}
+use Rattle.film_status.proofs.Returned.{returned}
 use borrow.Author.Needs.{needs}
 use Rattle.film_descriptions.proofs.film_entry_place.Statement.{statement}
 use Rattle.film_descriptions.proofs.film_entry_place.Tie as tie
-use Rattle.film_descriptions.proofs.film_entry_place.Reads as reads
-use Rattle.film_descriptions.proofs.film_entry_place.Lts as lts
-use Rattle.group_sgpd.proofs.entry_place.Reads as entry-place-reads
 
 entry-place-requires : tie.Need-entry-place-requires
 entry-place-requires c κs = search needs
@@ -25,13 +24,13 @@ enum-known-read-2 : tie.Need-enum-known-read-2
 enum-known-read-2 c = search needs
 
 returns : tie.Need-returns
-returns c = rw (← c .before .before .before .entry-place .ensures) (rw (c .before .read .given .1) (record { status = refl; out = refl }))
+returns c = returned toldEntry (c .before .before .before .entry-place .ensures) (c .before .read .given .1)
 
 returns-2 : tie.Need-returns-2
-returns-2 c = rw (← c .before .before .entry-place .ensures) (rw (c .enum-told .given .1) (record { status = refl; out = refl }))
+returns-2 c = returned toldEntry (c .before .before .entry-place .ensures) (c .enum-told .given .1)
 
 returns-3 : tie.Need-returns-3
-returns-3 c = rw (← c .before .before .before .entry-place .ensures) (rw (c .before .read2 .given .1) (record { status = refl; out = refl }))
+returns-3 c = returned toldEntry (c .before .before .before .entry-place .ensures) (c .before .read2 .given .1)
 
 pub film-entry-place-spec : {M : Type 1} → statement M
 film-entry-place-spec =

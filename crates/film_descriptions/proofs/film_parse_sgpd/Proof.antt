@@ -1,10 +1,9 @@
-use mathlib.Core.Path.{refl}
+-- Each arm returns the status and stores the numbers of the variant that it matched: the law `returned`.
+use Rattle.group_sgpd.specs.Told.{toldSgpd}
+use Rattle.film_status.proofs.Returned.{returned}
 use borrow.Author.Needs.{needs}
 use Rattle.film_descriptions.proofs.film_parse_sgpd.Statement.{statement}
 use Rattle.film_descriptions.proofs.film_parse_sgpd.Tie as tie
-use Rattle.film_descriptions.proofs.film_parse_sgpd.Reads as reads
-use Rattle.film_descriptions.proofs.film_parse_sgpd.Lts as lts
-use Rattle.group_sgpd.proofs.parse_sgpd.Reads as parse-sgpd-reads
 
 parse-sgpd-requires : tie.Need-parse-sgpd-requires
 parse-sgpd-requires c κs = search needs
@@ -46,10 +45,10 @@ enum-known-read-2 : tie.Need-enum-known-read-2
 enum-known-read-2 c = search needs
 
 returns : tie.Need-returns
-returns c = rw (← c .before .before .before .before .before .before .before .before .parse-sgpd .ensures) (rw (c .before .before .before .before .before .before .read .given .1) (record { status = refl; out = refl }))
+returns c = returned toldSgpd (c .before .before .before .before .before .before .before .before .parse-sgpd .ensures) (c .before .before .before .before .before .before .read .given .1)
 
 returns-2 : tie.Need-returns-2
-returns-2 c = rw (← c .before .before .before .parse-sgpd .ensures) (rw (c .before .read2 .given .1) (record { status = refl; out = refl }))
+returns-2 c = returned toldSgpd (c .before .before .before .parse-sgpd .ensures) (c .before .read2 .given .1)
 
 pub film-parse-sgpd-spec : {M : Type 1} → statement M
 film-parse-sgpd-spec =

@@ -2,10 +2,6 @@ use mathlib.Core.Path.{refl}
 use borrow.Author.Needs.{needs}
 use Rattle.film_descriptions.proofs.film_split_csgp_index.Statement.{statement}
 use Rattle.film_descriptions.proofs.film_split_csgp_index.Tie as tie
-use Rattle.film_descriptions.proofs.film_split_csgp_index.Reads as reads
-use Rattle.film_descriptions.proofs.film_split_csgp_index.Lts as lts
-use Rattle.film_status.proofs.bit_of.Reads as bit-of-reads
-use Rattle.group_fragments.proofs.split_csgp_index.Reads as split-csgp-index-reads
 
 split-csgp-index-requires : tie.Need-split-csgp-index-requires
 split-csgp-index-requires c κs = search needs

@@ -1,10 +1,8 @@
+-- The sum is stored; a refusal stores nothing.
 use mathlib.Core.Path.{refl}
 use borrow.Author.Needs.{needs}
 use Rattle.film_tables.proofs.film_covered_samples.Statement.{statement}
 use Rattle.film_tables.proofs.film_covered_samples.Tie as tie
-use Rattle.film_tables.proofs.film_covered_samples.Reads as reads
-use Rattle.film_tables.proofs.film_covered_samples.Lts as lts
-use Rattle.table_rows.proofs.covered_samples.Reads as covered-samples-reads
 
 covered-samples-requires : tie.Need-covered-samples-requires
 covered-samples-requires c κs = search needs

@@ -1,10 +1,8 @@
+-- The index is stored; a refusal stores nothing.
 use mathlib.Core.Path.{refl}
 use borrow.Author.Needs.{needs}
 use Rattle.film_tables.proofs.film_group_index_for_sample.Statement.{statement}
 use Rattle.film_tables.proofs.film_group_index_for_sample.Tie as tie
-use Rattle.film_tables.proofs.film_group_index_for_sample.Reads as reads
-use Rattle.film_tables.proofs.film_group_index_for_sample.Lts as lts
-use Rattle.table_rows.proofs.group_index_for_sample.Reads as group-index-for-sample-reads
 
 group-index-for-sample-requires : tie.Need-group-index-for-sample-requires
 group-index-for-sample-requires c κs = search needs

@@ -1,10 +1,6 @@
 use borrow.Author.Needs.{needs}
 use Rattle.film_tables.proofs.film_parse_csgp.Statement.{statement}
 use Rattle.film_tables.proofs.film_parse_csgp.Tie as tie
-use Rattle.film_tables.proofs.film_parse_csgp.Reads as reads
-use Rattle.film_tables.proofs.film_parse_csgp.Lts as lts
-use Rattle.film_tables.proofs.put_head.Reads as put-head-reads
-use Rattle.table_csgp.proofs.parse_csgp.Reads as parse-csgp-reads
 
 parse-csgp-requires : tie.Need-parse-csgp-requires
 parse-csgp-requires c κs = search needs

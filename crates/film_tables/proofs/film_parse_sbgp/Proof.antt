@@ -1,10 +1,6 @@
 use borrow.Author.Needs.{needs}
 use Rattle.film_tables.proofs.film_parse_sbgp.Statement.{statement}
 use Rattle.film_tables.proofs.film_parse_sbgp.Tie as tie
-use Rattle.film_tables.proofs.film_parse_sbgp.Reads as reads
-use Rattle.film_tables.proofs.film_parse_sbgp.Lts as lts
-use Rattle.film_tables.proofs.put_head.Reads as put-head-reads
-use Rattle.table_sbgp.proofs.parse_sbgp.Reads as parse-sbgp-reads
 
 parse-sbgp-requires : tie.Need-parse-sbgp-requires
 parse-sbgp-requires c κs = search needs

@@ -1,9 +1,8 @@
+-- Three numbers of the head are stored one after the other; a refusal stores nothing.
 use mathlib.Core.Path.{refl}
 use borrow.Author.Needs.{needs}
 use Rattle.film_tables.proofs.put_head.Statement.{statement}
 use Rattle.film_tables.proofs.put_head.Tie as tie
-use Rattle.film_tables.proofs.put_head.Reads as reads
-use Rattle.film_tables.proofs.put_head.Lts as lts
 
 enum-known-parsed : tie.Need-enum-known-parsed
 enum-known-parsed c = search needs

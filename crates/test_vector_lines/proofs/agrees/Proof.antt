@@ -1,13 +1,9 @@
+-- Status and numbers, each by its own comparison.
 use mathlib.Core.Path.{sym, _∙_}
 use borrow.Author.Tests.{eq-eqb, ne-eqb}
 use borrow.Author.Needs.{needs}
 use Rattle.test_vector_lines.proofs.agrees.Statement.{statement}
 use Rattle.test_vector_lines.proofs.agrees.Tie as tie
-use Rattle.test_vector_lines.proofs.agrees.Reads as reads
-use Rattle.test_vector_lines.proofs.agrees.Lts as lts
-use Rattle.test_vector_lines.proofs.numbers.Reads as numbers-reads
-use Rattle.test_vector_lines.proofs.same_numbers.Reads as same-numbers-reads
-use Rattle.test_vector_lines.proofs.same_status.Reads as same-status-reads
 
 same-status-requires : tie.Need-same-status-requires
 same-status-requires c κs = search needs

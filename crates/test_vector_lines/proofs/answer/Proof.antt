@@ -1,11 +1,6 @@
 use borrow.Author.Needs.{needs}
 use Rattle.test_vector_lines.proofs.answer.Statement.{statement}
 use Rattle.test_vector_lines.proofs.answer.Tie as tie
-use Rattle.test_vector_lines.proofs.answer.Reads as reads
-use Rattle.test_vector_lines.proofs.answer.Lts as lts
-use Rattle.test_vector_lines.proofs.input_place.Reads as input-place-reads
-use Rattle.test_vector_lines.proofs.input_size.Reads as input-size-reads
-use Rattle.test_vector_lines.proofs.rest.Reads as rest-reads
 
 input-place-requires : tie.Need-input-place-requires
 input-place-requires c κs = search needs

@@ -1,3 +1,4 @@
+-- Eight bytes at the argument's place; the sums fit.
 use Prim.Native.Nat.{_+_, _*_}
 use native.Mathlib.Omega.{arith}
 use lib.ListN.{length, getD}
@@ -6,10 +7,6 @@ use Rattle.test_vector_lines.specs.Lines.{argumentOf}
 use borrow.Author.Needs.{needs}
 use Rattle.test_vector_lines.proofs.argument.Statement.{statement}
 use Rattle.test_vector_lines.proofs.argument.Tie as tie
-use Rattle.test_vector_lines.proofs.argument.Reads as reads
-use Rattle.test_vector_lines.proofs.argument.Lts as lts
-use Rattle.base_fields.proofs.read_u64.Reads as read-u64-reads
-use Rattle.test_vector_lines.proofs.byte.Reads as byte-reads
 
 mul-at : tie.Need-mul-at
 mul-at c = search needs

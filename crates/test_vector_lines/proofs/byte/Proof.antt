@@ -5,9 +5,6 @@ use Rattle.base_fields.proofs.Bytes.{beAt-one}
 use borrow.Author.Needs.{needs}
 use Rattle.test_vector_lines.proofs.byte.Statement.{statement}
 use Rattle.test_vector_lines.proofs.byte.Tie as tie
-use Rattle.test_vector_lines.proofs.byte.Reads as reads
-use Rattle.test_vector_lines.proofs.byte.Lts as lts
-use Rattle.base_fields.proofs.read_u8.Reads as read-u8-reads
 
 read-u8-requires : tie.Need-read-u8-requires
 read-u8-requires c κs = search needs

@@ -1,12 +1,6 @@
 use borrow.Author.Needs.{needs}
 use Rattle.test_vector_lines.proofs.input.Statement.{statement}
 use Rattle.test_vector_lines.proofs.input.Tie as tie
-use Rattle.test_vector_lines.proofs.input.Reads as reads
-use Rattle.test_vector_lines.proofs.input.Lts as lts
-use Rattle.test_vector_lines.proofs.front.Reads as front-reads
-use Rattle.test_vector_lines.proofs.input_place.Reads as input-place-reads
-use Rattle.test_vector_lines.proofs.input_size.Reads as input-size-reads
-use Rattle.test_vector_lines.proofs.rest.Reads as rest-reads
 
 input-place-requires : tie.Need-input-place-requires
 input-place-requires c κs = search needs

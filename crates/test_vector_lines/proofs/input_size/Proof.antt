@@ -1,3 +1,4 @@
+-- Two bytes behind the arguments; the sums fit.
 use mathlib.Core.Path.{_≡_, ap, _∙_}
 use Prim.Native.Nat.{ℕ, _+_, _*_}
 use native.Mathlib.Omega.{arith}
@@ -5,9 +6,6 @@ use lib.ListN.{getD}
 use borrow.Author.Needs.{needs}
 use Rattle.test_vector_lines.proofs.input_size.Statement.{statement}
 use Rattle.test_vector_lines.proofs.input_size.Tie as tie
-use Rattle.test_vector_lines.proofs.input_size.Reads as reads
-use Rattle.test_vector_lines.proofs.input_size.Lts as lts
-use Rattle.test_vector_lines.proofs.byte.Reads as byte-reads
 
 byte-requires : tie.Need-byte-requires
 byte-requires c κs = search needs

@@ -1,10 +1,6 @@
 use borrow.Author.Needs.{needs}
 use Rattle.test_vector_lines.proofs.numbers.Statement.{statement}
 use Rattle.test_vector_lines.proofs.numbers.Tie as tie
-use Rattle.test_vector_lines.proofs.numbers.Reads as reads
-use Rattle.test_vector_lines.proofs.numbers.Lts as lts
-use Rattle.test_vector_lines.proofs.answer.Reads as answer-reads
-use Rattle.test_vector_lines.proofs.rest.Reads as rest-reads
 
 answer-requires : tie.Need-answer-requires
 answer-requires c κs = search needs

@@ -1,3 +1,4 @@
+-- The loop's invariant: all numbers agree exactly when those not compared yet do.
 use borrow.Author.Needs.{needs}
 use Prim.Native.Nat.{_-_, _*_, _/_, _≤_}
 use lib.ListN.{length, getD, drop}
@@ -8,9 +9,6 @@ use Rattle.test_vector_lines.specs.Lines.{numbersFrom, sameNumbers}
 use Rattle.test_vector_lines.proofs.Laws.{number-first, number-none}
 use Rattle.test_vector_lines.proofs.same_numbers.Statement.{statement}
 use Rattle.test_vector_lines.proofs.same_numbers.Tie as tie
-use Rattle.test_vector_lines.proofs.same_numbers.Reads as reads
-use Rattle.test_vector_lines.proofs.same_numbers.Lts as lts
-use Rattle.base_fields.proofs.read_u64.Reads as read-u64-reads
 
 abbrev Inv-loop : tie.InvT-loop
 Inv-loop seen out k₀ k = (k ≤ length out) × (numbersFrom seen 0 out ≡ numbersFrom seen (8 * k) (drop k out))

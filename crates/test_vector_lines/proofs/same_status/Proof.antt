@@ -1,10 +1,6 @@
 use borrow.Author.Needs.{needs}
 use Rattle.test_vector_lines.proofs.same_status.Statement.{statement}
 use Rattle.test_vector_lines.proofs.same_status.Tie as tie
-use Rattle.test_vector_lines.proofs.same_status.Reads as reads
-use Rattle.test_vector_lines.proofs.same_status.Lts as lts
-use Rattle.test_vector_lines.proofs.answer.Reads as answer-reads
-use Rattle.test_vector_lines.proofs.told_status.Reads as told-status-reads
 
 answer-requires : tie.Need-answer-requires
 answer-requires c κs = search needs

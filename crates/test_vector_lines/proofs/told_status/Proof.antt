@@ -1,3 +1,4 @@
+-- By the stored status: a value, none, or a refusal.
 use mathlib.Core.Path.{_∙_}
 use mathlib.Core.Logic.{⊎-elim}
 use Prim.Native.Nat.{_/_, _%_}
@@ -8,9 +9,6 @@ use Rattle.test_vector_lines.specs.Lines.{toldStatus}
 use borrow.Author.Needs.{needs}
 use Rattle.test_vector_lines.proofs.told_status.Statement.{statement}
 use Rattle.test_vector_lines.proofs.told_status.Tie as tie
-use Rattle.test_vector_lines.proofs.told_status.Reads as reads
-use Rattle.test_vector_lines.proofs.told_status.Lts as lts
-use Rattle.test_vector_lines.proofs.byte.Reads as byte-reads
 
 returns : tie.Need-returns
 unfolding toldStatus

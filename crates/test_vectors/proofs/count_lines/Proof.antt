@@ -1,3 +1,4 @@
+-- The loop ends: it goes on by a line each turn. The counts stay at most the bytes passed.
 use borrow.Author.Needs.{needs}
 use native.Mathlib.Omega.{arith}
 use Prim.Native.Nat.{_+_, _-_, _*_, _/_, _≤_}
@@ -5,12 +6,6 @@ use lib.ListN.{length}
 use mathlib.Core.Path.{_≡_}
 use Rattle.test_vectors.proofs.count_lines.Statement.{statement}
 use Rattle.test_vectors.proofs.count_lines.Tie as tie
-use Rattle.test_vectors.proofs.count_lines.Reads as reads
-use Rattle.test_vectors.proofs.count_lines.Lts as lts
-use Rattle.test_vector_lines.proofs.decode.Reads as decode-reads
-use Rattle.test_vector_lines.proofs.front.Reads as front-reads
-use Rattle.test_vector_lines.proofs.line_end.Reads as line-end-reads
-use Rattle.test_vectors.proofs.differs.Reads as differs-reads
 
 abbrev Inv-loop : tie.InvT-loop
 Inv-loop text bytes₀ lines₀ differ₀ at₀ bytes lines differ at = (at ≤ length text + 1) × (lines ≤ at) × (differ ≤ lines) × (length bytes ≡ length bytes₀)

@@ -1,3 +1,4 @@
+-- The loop ends, and every store is within the rows.
 use borrow.Author.Needs.{needs}
 use native.Mathlib.Omega.{arith}
 use Prim.Native.Nat.{_+_, _-_, _*_, _/_, _≤_}
@@ -5,9 +6,6 @@ use lib.ListN.{length, length-set}
 use mathlib.Core.Path.{_≡_}
 use Rattle.test_vectors_tables.proofs.load.Statement.{statement}
 use Rattle.test_vectors_tables.proofs.load.Tie as tie
-use Rattle.test_vectors_tables.proofs.load.Reads as reads
-use Rattle.test_vectors_tables.proofs.load.Lts as lts
-use Rattle.base_fields.proofs.read_u32.Reads as read-u32-reads
 
 abbrev Inv-loop : tie.InvT-loop
 Inv-loop s rows₀ k₀ rows k = (k ≤ length rows) × (length rows ≡ length rows₀)

@@ -1,3 +1,4 @@
+-- The loop ends, and every read is within the rows.
 use borrow.Author.Needs.{needs}
 use native.Mathlib.Omega.{arith}
 use Prim.Native.Nat.{_+_, _-_, _*_, _/_, _≤_}
@@ -5,9 +6,6 @@ use lib.ListN.{length}
 use mathlib.Core.Path.{_≡_}
 use Rattle.test_vectors_tables.proofs.same_rows.Statement.{statement}
 use Rattle.test_vectors_tables.proofs.same_rows.Tie as tie
-use Rattle.test_vectors_tables.proofs.same_rows.Reads as reads
-use Rattle.test_vectors_tables.proofs.same_rows.Lts as lts
-use Rattle.base_fields.proofs.read_u64.Reads as read-u64-reads
 
 abbrev Inv-loop : tie.InvT-loop
 Inv-loop seen rows count n k₀ k = k ≤ n

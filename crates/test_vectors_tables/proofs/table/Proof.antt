@@ -1,12 +1,9 @@
+-- The rows lent are within the array.
 use mathlib.Core.Path.{sym}
 use lib.Seq.{length-take-le}
 use borrow.Author.Needs.{needs}
 use Rattle.test_vectors_tables.proofs.table.Statement.{statement}
 use Rattle.test_vectors_tables.proofs.table.Tie as tie
-use Rattle.test_vectors_tables.proofs.table.Reads as reads
-use Rattle.test_vectors_tables.proofs.table.Lts as lts
-use Rattle.test_vector_lines.proofs.argument.Reads as argument-reads
-use Rattle.test_vectors_tables.proofs.parsed.Reads as parsed-reads
 
 argument-requires : tie.Need-argument-requires
 argument-requires c κs = search needs
