@@ -1,11 +1,12 @@
 -- Part 9 of document 01: a film-wide sgpd and a fragment one, and bit 31 of a csgp index that picks between them.
 use Prim.Native.Nat.{ℕ, _*_, _/_, _%_}
+use mathlib.Core.Path.{_≡_}
 use mathlib.Core.Bool.{Bool, true, false}
 use mathlib.Core.List.{List, []}
 use lib.Dec.{eqb}
 use Rattle.base_fields.specs.Answer.{Answer, given, none, refused, choose, andThen, within}
 use Rattle.group_sgpd.specs.Sgpd.{sgpd, pick}
-use Rattle.base_fields.specs.Span.{Span, bytesAt}
+use Rattle.base_fields.specs.Span.{Span, bytesAt, PartAt}
 
 -- bit 31 of an index
 abbrev pub localBit : ℕ → Bool
@@ -38,6 +39,17 @@ abbrev pub bytesOf : List ℕ → List ℕ → Answer Part → List ℕ
 bytesOf film fragment (given p) = bytesAt (choose (p .local) fragment film) (p .span)
 bytesOf film fragment none = []
 bytesOf film fragment (refused n) = []
+
+-- where its part stands: in the payload that has it. The pairs are memory blocks and offsets, of the film-wide payload, of the fragment's, and of the part
+abbrev pub PlaceOf : Answer Part → ℕ × ℕ → ℕ × ℕ → ℕ × ℕ → Type 0
+PlaceOf (given p) film fragment part = PartAt (given (p .span)) (choose (p .local) fragment film) part
+PlaceOf none film fragment part = Unit
+PlaceOf (refused n) film fragment part = Unit
+
+-- a reference to the part that an answer names: its bytes and its place
+pub record GivesDescribed (told : Answer Part) (film fragment : List ℕ) (filmAt fragmentAt : ℕ × ℕ) (part : List ℕ) (at : ℕ × ℕ) : Type 0 where
+  pub bytes : part ≡ bytesOf film fragment told
+  pub place : PlaceOf told filmAt fragmentAt at
 
 -- the rate of a point: bitrate times share over 100, rounded down
 abbrev pub rateOf : ℕ → ℕ → ℕ

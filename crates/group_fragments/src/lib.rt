@@ -3,7 +3,7 @@ ghost use mathlib.Core.Path.{_≡_};
 ghost use mathlib.Core.Bool.{true, false};
 ghost use Rattle.base_fields.specs.Answer.{andThen};
 ghost use Rattle.group_sgpd.specs.Sgpd.{sgpd};
-ghost use Rattle.group_fragments.specs.Fragments.{localBit, partIn, describedAt, bytesOf, plainIndex, rateOf};
+ghost use Rattle.group_fragments.specs.Fragments.{localBit, partIn, describedAt, GivesDescribed, plainIndex, rateOf};
 ghost use Rattle.group_fragments.specs.Told.{toldPart};
 use base_fields::INPUT_LIMIT;
 use base_ids::DescriptionIndex;
@@ -87,7 +87,7 @@ pub fn described_place(film: &[u8], fragment: &[u8], raw: u32) -> FoundPart
 
 // The entry's part of that payload; empty where `described_place` gives no place.
 pub fn described<'a>(film: &'a [u8], fragment: &'a [u8], raw: u32) -> &'a [u8]
-    ensures { λ r. ⌜ now r ≡ bytesOf (now (film .entry)) (now (fragment .entry)) (describedAt (now (film .entry)) (now (fragment .entry)) raw) ⌝ }
+    ensures { λ r. ⌜ GivesDescribed (describedAt (now (film .entry)) (now (fragment .entry)) raw) (now (film .entry)) (now (fragment .entry)) (film .entry .ptr) (fragment .entry .ptr) (now r) (r .ptr) ⌝ }
 {
     match described_place(film, fragment, raw) {
         FoundPart::Film(at, size) => {

@@ -3,7 +3,7 @@ ghost use mathlib.Core.Path.{_≡_};
 ghost use Prim.Native.Nat.{_+_, _≤_, _<_};
 ghost use Rattle.base_fields.specs.Answer.{andThen};
 ghost use Rattle.group_sgpd.specs.Sgpd.{entryAt, entryCount, spanAt, spans, pick, entryCountPlace};
-ghost use Rattle.base_fields.specs.Span.{partOf};
+ghost use Rattle.base_fields.specs.Span.{GivesPart};
 ghost use Rattle.group_sgpd.specs.Told.{toldEntry};
 ghost use Rattle.group_sgpd.specs.Head.{HeadOf, Among};
 use super::FoundEntry;
@@ -81,7 +81,7 @@ pub fn entry_place(s: &[u8], index: DescriptionIndex) -> FoundEntry
 
 // The entry's part of the payload; empty where `entry_place` gives no place.
 pub fn entry(s: &[u8], index: DescriptionIndex) -> &[u8]
-    ensures { λ r. ⌜ now r ≡ partOf (now (s .entry)) (entryAt (now (s .entry)) (index .0)) ⌝ }
+    ensures { λ r. ⌜ GivesPart (entryAt (now (s .entry)) (index .0)) (now (s .entry)) (s .entry .ptr) (now r) (r .ptr) ⌝ }
 {
     match entry_place(s, index) {
         FoundEntry::Entry(at, size) => {

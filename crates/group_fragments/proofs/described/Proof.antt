@@ -2,7 +2,7 @@
 use lib.ListN.{length}
 use Rattle.group_fragments.proofs.Two.{described-inside}
 use Rattle.group_fragments.specs.Told.{toldPart}
-use Rattle.group_fragments.specs.Fragments.{describedAt, bytesOf}
+use Rattle.group_fragments.specs.Fragments.{describedAt}
 use Rattle.base_fields.specs.Answer.{given}
 use Prim.Native.Nat.{_+_, _-_, _≤_}
 use native.Mathlib.Omega.{arith}
@@ -87,23 +87,23 @@ returns : tie.Need-returns
 returns c =
     let d = c .before .before in
     let e : d .at .given .0 .0 + d .at .given .0 .1 .0 - d .at .given .0 .0 ≡ d .at .given .0 .1 .0 = omega arith in
-    rw (film-found d, e) refl
+    rw (film-found d, e) (record { bytes = refl; place = (refl, refl) })
 
 returns-2 : tie.Need-returns-2
 returns-2 c =
     let d = c .before .before in
     let e : d .at2 .given .0 .0 + d .at2 .given .0 .1 .0 - d .at2 .given .0 .0 ≡ d .at2 .given .0 .1 .0 = omega arith in
-    rw (fragment-found d, e) refl
+    rw (fragment-found d, e) (record { bytes = refl; place = (refl, refl) })
 
 returns-3 : tie.Need-returns-3
 returns-3 c =
-    let a = c .before .before .before .before .before .before .args in
-    ap (bytesOf (a .film .now) (a .fragment .now)) (ap toldPart (sym (c .before .enum-told .given .1)) ∙ c .before .before .before .described-place .ensures)
+    let called = c .before .before .before in
+    rw (← (ap toldPart (sym (c .before .enum-told .given .1)) ∙ called .described-place .ensures)) (record { bytes = refl; place = tt })
 
 returns-4 : tie.Need-returns-4
 returns-4 c =
-    let a = c .before .before .before .before .before .before .args in
-    ap (bytesOf (a .film .now) (a .fragment .now)) (ap toldPart (sym (c .before .enum-told2 .given .1)) ∙ c .before .before .before .described-place .ensures)
+    let called = c .before .before .before in
+    rw (← (ap toldPart (sym (c .before .enum-told2 .given .1)) ∙ called .described-place .ensures)) (record { bytes = refl; place = tt })
 
 pub described-spec : {M : Type 1} → statement M
 described-spec =

@@ -2,7 +2,6 @@
 use Rattle.group_sgpd.proofs.ByNumber.{entry-inside}
 use Rattle.group_sgpd.specs.Told.{toldEntry}
 use Rattle.group_sgpd.specs.Sgpd.{entryAt}
-use Rattle.base_fields.specs.Span.{partOf}
 use Rattle.base_fields.specs.Answer.{given}
 use lib.ListN.{length}
 use Prim.Native.Nat.{_+_, _-_, _≤_}
@@ -65,13 +64,17 @@ returns : tie.Need-returns
 returns c =
     let d = c .before .before in
     let e : d .at .given .0 .0 + d .at .given .0 .1 .0 - d .at .given .0 .0 ≡ d .at .given .0 .1 .0 = omega arith in
-    rw (found d, e) refl
+    rw (found d, e) (record { bytes = refl; place = (refl, refl) })
 
 returns-2 : tie.Need-returns-2
-returns-2 c = ap (partOf (c .before .before .before .before .before .args .s .now)) (ap toldEntry (sym (c .before .enum-told .given .1)) ∙ c .before .before .before .entry-place .ensures)
+returns-2 c =
+    let called = c .before .before .before in
+    rw (← (ap toldEntry (sym (c .before .enum-told .given .1)) ∙ called .entry-place .ensures)) (record { bytes = refl; place = tt })
 
 returns-3 : tie.Need-returns-3
-returns-3 c = ap (partOf (c .before .before .before .before .before .args .s .now)) (ap toldEntry (sym (c .before .enum-told2 .given .1)) ∙ c .before .before .before .entry-place .ensures)
+returns-3 c =
+    let called = c .before .before .before in
+    rw (← (ap toldEntry (sym (c .before .enum-told2 .given .1)) ∙ called .entry-place .ensures)) (record { bytes = refl; place = tt })
 
 pub entry-spec : {M : Type 1} → statement M
 entry-spec =
