@@ -1,5 +1,6 @@
 pub mod Copying
 pub mod Joined
+pub mod Placed
 pub mod Readers
 pub mod Searching
 pub mod Sums

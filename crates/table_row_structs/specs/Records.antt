@@ -1,9 +1,9 @@
 -- Rows as structs (document 01, parts 3 and 5): the rows that they are, the answers of the readers, and a run of numbers written over them.
 use Prim.Native.Nat.{ℕ}
 use mathlib.Core.List.{List, map, _++_}
-use lib.Dec.{ltb}
-use lib.ListN.{length, drop}
-use Rattle.base_fields.specs.Answer.{Answer, given, none, refused, choose, refuseIf}
+use lib.Dec.{ltb, leb}
+use lib.ListN.{length, drop, getD, set}
+use Rattle.base_fields.specs.Answer.{Answer, given, none, refused, choose, refuseIf, noneIf}
 use Rattle.table_rows.specs.Row.{Row, rowsOf, recordsIn, withinRecords, covered, indexAt}
 use Rattle.base_ids.specs.Limits.{recordLimit}
 use Rattle.table_row_structs.specs.declared.SampleToGroupEntry.{SampleToGroupEntry}
@@ -17,6 +17,24 @@ recordRows rows = map rowOf rows
 -- what stands for a row past the end
 abbrev pub noRow : SampleToGroupEntry
 noRow = record { «sample_count» = 0; «group_description_index» = 0 }
+
+-- row k: 55 where there are too many rows, none past the end
+abbrev pub rowIn : List SampleToGroupEntry → ℕ → Answer SampleToGroupEntry
+rowIn rows k = withinRecords (length rows) (noneIf (leb (length rows) k) (given (getD rows k noRow)))
+
+-- the answer where row k of n is set: the same order
+abbrev pub setAnswer : ℕ → ℕ → Answer Unit
+setAnswer n k = withinRecords n (noneIf (leb n k) (given tt))
+
+-- the rows after that answer
+abbrev pub rowsSet : Answer Unit → List SampleToGroupEntry → ℕ → SampleToGroupEntry → List SampleToGroupEntry
+rowsSet (given _) rows k row = set rows k row
+rowsSet none rows k row = rows
+rowsSet (refused n) rows k row = rows
+
+-- the place where row k of n is read or set, or n where none is
+abbrev pub placeIn : ℕ → ℕ → ℕ
+placeIn n k = choose (ltb recordLimit n) n (choose (ltb k n) k n)
 
 -- the answers of the two lookups (part 5)
 abbrev pub lookupIn : List SampleToGroupEntry → ℕ → Answer ℕ

@@ -3,12 +3,32 @@ use Prim.Native.Nat.{ℕ, _+_, _-_}
 use mathlib.Core.Path.{_≡_}
 use mathlib.Core.List.{List}
 use lib.Dec.{ltb}
-use Rattle.base_fields.specs.Answer.{Answer, given, refused, choose}
-use Rattle.table_row_structs.specs.Records.{rowsCopied, copyInto}
+use lib.ListN.{length}
+use Rattle.base_fields.specs.Answer.{Answer, given, none, refused, choose}
+use Rattle.table_row_structs.specs.Records.{setAnswer, rowsSet, rowsCopied, copyInto}
 use Rattle.table_row_structs.specs.declared.SampleToGroupEntry.{SampleToGroupEntry}
+use Rattle.table_row_structs.specs.declared.ReadRow.{ReadRow}
+use Rattle.table_row_structs.specs.declared.ReadRow.the-variants as read
+use Rattle.table_row_structs.specs.declared.SetRow.{SetRow}
+use Rattle.table_row_structs.specs.declared.SetRow.the-variants as setting
 use Rattle.table_row_structs.specs.declared.Search.{Search}
 use Rattle.table_row_structs.specs.declared.Written.{Written}
 use Rattle.table_row_structs.specs.declared.Written.the-variants as written
+
+abbrev pub toldRow : ReadRow → Answer SampleToGroupEntry
+toldRow (read.Row row) = given row
+toldRow read.Nothing = none
+toldRow (read.Refused n) = refused n
+
+abbrev pub toldSet : SetRow → Answer Unit
+toldSet setting.Set = given tt
+toldSet setting.Nothing = none
+toldSet (setting.Refused n) = refused n
+
+-- the answer of setting row k, and every row afterwards
+pub record GivesSet (before after : List SampleToGroupEntry) (k : ℕ) (row : SampleToGroupEntry) (r : SetRow) : Type 0 where
+  pub answer : toldSet r ≡ setAnswer (length before) k
+  pub rows : after ≡ rowsSet (setAnswer (length before) k) before k row
 
 abbrev pub toldWritten : Written → Answer ℕ
 toldWritten (written.Rows n) = given n

@@ -1,10 +1,12 @@
 // Rows of a sample table in a lent run of structs (document 01, parts 3 and 5).
 ghost use mathlib.Core.Path.{_≡_};
 ghost use Prim.Native.Nat.{_<_, _/_};
-ghost use lib.ListN.{length, getD, set};
+ghost use lib.ListN.{length, getD};
+ghost use Rattle.base_fields.specs.Answer.{given, none};
+ghost use Rattle.table_rows.specs.Row.{withinRecords};
 ghost use Rattle.table_rows.specs.Found.{toldIndex, toldCovered};
-ghost use Rattle.table_row_structs.specs.Records.{noRow, lookupIn, totalIn, orTooMany, readCount, copyAnswer, structsOf};
-ghost use Rattle.table_row_structs.specs.Steps.{acceptedIn, searchFrom, passed, toldWritten, GivesRows};
+ghost use Rattle.table_row_structs.specs.Records.{noRow, placeIn, rowIn, setAnswer, lookupIn, totalIn, orTooMany, readCount, copyAnswer, structsOf};
+ghost use Rattle.table_row_structs.specs.Steps.{toldRow, toldSet, GivesSet, acceptedIn, searchFrom, passed, toldWritten, GivesRows};
 use base_ids::DescriptionIndex;
 use base_ids::RECORD_LIMIT;
 use base_ids::RowNumber;
@@ -25,6 +27,18 @@ pub enum Written {
     Refused(u32),
 }
 
+pub enum ReadRow {
+    Row(SampleToGroupEntry),
+    Nothing,
+    Refused(u32),
+}
+
+pub enum SetRow {
+    Set,
+    Nothing,
+    Refused(u32),
+}
+
 // A lookup under way: the row to look at next, the samples still to pass, and the index that was found.
 struct Search {
     next: usize,
@@ -38,18 +52,78 @@ pub fn row_count(rows: &[SampleToGroupEntry]) -> usize
     rows.len()
 }
 
-pub fn row_at(rows: &[SampleToGroupEntry], k: usize) -> SampleToGroupEntry
+fn row_in(rows: &[SampleToGroupEntry], k: usize) -> SampleToGroupEntry
     requires { ⌜ k < length (now rows) ⌝ }
     ensures { λ r. ⌜ r ≡ getD (now (rows .entry)) k noRow ⌝ }
 {
     rows[k]
 }
 
-pub fn set_row(rows: &mut [SampleToGroupEntry], k: usize, row: SampleToGroupEntry)
-    requires { ⌜ k < length (now rows) ⌝ }
-    ensures { λ _. ⌜ now (rows .exit) ≡ set (now (rows .entry)) k row ⌝ }
+// Row k's place among n rows, or n where no row is read or set there.
+fn place_of(n: usize, k: usize) -> usize
+    ensures { λ r. ⌜ r ≡ placeIn n k ⌝ }
 {
-    rows[k] = row;
+    if RECORD_LIMIT < n {
+        return n;
+    }
+    if k < n {
+        return k;
+    }
+    n
+}
+
+fn found_row(row: SampleToGroupEntry) -> ReadRow
+    ensures { λ r. ⌜ toldRow r ≡ given row ⌝ }
+{
+    ReadRow::Row(row)
+}
+
+// What is answered where no row of n is read.
+fn missing_row(n: usize) -> ReadRow
+    ensures { λ r. ⌜ toldRow r ≡ withinRecords n none ⌝ }
+{
+    if RECORD_LIMIT < n {
+        return ReadRow::Refused(55);
+    }
+    ReadRow::Nothing
+}
+
+// Row k, or none past the end.
+pub fn row_at(rows: &[SampleToGroupEntry], k: usize) -> ReadRow
+    ensures { λ r. ⌜ toldRow r ≡ rowIn (now (rows .entry)) k ⌝ }
+{
+    let n = row_count(rows);
+    let place = place_of(n, k);
+    if place < n {
+        let row = row_in(rows, place);
+        return found_row(row);
+    }
+    missing_row(n)
+}
+
+// What is answered where row k of n is set.
+fn set_told(n: usize, k: usize) -> SetRow
+    ensures { λ r. ⌜ toldSet r ≡ setAnswer n k ⌝ }
+{
+    if RECORD_LIMIT < n {
+        return SetRow::Refused(55);
+    }
+    if k < n {
+        return SetRow::Set;
+    }
+    SetRow::Nothing
+}
+
+// Sets row k; the others stay. Past the end, and where the rows are too many, all stay.
+pub fn set_row(rows: &mut [SampleToGroupEntry], k: usize, row: SampleToGroupEntry) -> SetRow
+    ensures { λ r. ⌜ GivesSet (now (rows .entry)) (now (rows .exit)) k row r ⌝ }
+{
+    let n = rows.len();
+    let place = place_of(n, k);
+    if place < n {
+        rows[place] = row;
+    }
+    set_told(n, k)
 }
 
 // How many of n rows a call reads: all of them, or none where they are too many.
@@ -80,7 +154,7 @@ pub fn covered_samples(rows: &[SampleToGroupEntry]) -> Covered
     let mut k: usize = 0;
     let mut sum: u64 = 0;
     while k < reads {
-        let row = row_at(rows, k);
+        let row = row_in(rows, k);
         let count = row.sample_count as u64;
         sum = sum + count;
         k = k + 1;
@@ -186,7 +260,7 @@ pub fn group_index_for_sample(rows: &[SampleToGroupEntry], sample: SampleNumber)
     let reads = rows_read(n);
     let mut search = search_for(sample);
     while search.next < reads {
-        let row = row_at(rows, search.next);
+        let row = row_in(rows, search.next);
         search = pass_row(search, row, reads);
     }
     index_told(n, search)

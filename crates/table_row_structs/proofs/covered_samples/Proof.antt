@@ -18,9 +18,9 @@ use Rattle.table_row_structs.proofs.SampleToGroupEntry.Laws as T′
 use Rattle.table_row_structs.proofs.row_count.Symbol as count-def
 use Rattle.table_row_structs.proofs.row_count.Symbol.{name as #count}
 use Rattle.table_row_structs.proofs.row_count.Met as count-thm
-use Rattle.table_row_structs.proofs.row_at.Symbol as at-def
-use Rattle.table_row_structs.proofs.row_at.Symbol.{name as #at}
-use Rattle.table_row_structs.proofs.row_at.Met as at-thm
+use Rattle.table_row_structs.proofs.row_in.Symbol as at-def
+use Rattle.table_row_structs.proofs.row_in.Symbol.{name as #at}
+use Rattle.table_row_structs.proofs.row_in.Met as at-thm
 use Rattle.table_row_structs.proofs.rows_read.Symbol as read-def
 use Rattle.table_row_structs.proofs.rows_read.Symbol.{name as #read}
 use Rattle.table_row_structs.proofs.rows_read.Met as read-thm
@@ -198,6 +198,6 @@ covered-samples-spec 𝓤 H 𝓜 𝓖 𝓡 =
     (tables 𝓤 H 𝓜 𝓡 code.env .C) (tables 𝓤 H 𝓜 𝓡 code.env .Λ) #key code.function (code.unfolded 𝓤 H 𝓜 𝓡)
     (meets 𝓤 H (𝓖 .A) (givenOf 𝓤 H 𝓜 𝓖) (𝓜 .mem) (𝓡 .run) (tablesOf 𝓤 H 𝓜 (tables 𝓤 H 𝓜 𝓡 code.env))
     (cited 𝓤 H (Count 𝓤 H (𝓖 .A) (𝓜 .mem) (𝓡 .run)) 𝓜 𝓡 code.env #count count-def.routine code.calls-table-row-structs·row-count (count-thm.met 𝓤 H 𝓜 𝓖 𝓡))
-    (cited 𝓤 H (At 𝓤 H (𝓖 .A) (𝓜 .mem) (𝓡 .run)) 𝓜 𝓡 code.env #at at-def.routine code.calls-table-row-structs·row-at (at-thm.met 𝓤 H 𝓜 𝓖 𝓡))
+    (cited 𝓤 H (At 𝓤 H (𝓖 .A) (𝓜 .mem) (𝓡 .run)) 𝓜 𝓡 code.env #at at-def.routine code.calls-table-row-structs·row-in (at-thm.met 𝓤 H 𝓜 𝓖 𝓡))
     (cited 𝓤 H (Read 𝓤 H (𝓖 .A) (𝓜 .mem) (𝓡 .run)) 𝓜 𝓡 code.env #read read-def.routine code.calls-table-row-structs·rows-read (read-thm.met 𝓤 H 𝓜 𝓖 𝓡))
     (cited 𝓤 H (Told 𝓤 H (𝓖 .A) (𝓜 .mem) (𝓡 .run)) 𝓜 𝓡 code.env #told told-def.routine code.calls-table-row-structs·sum-told (told-thm.met 𝓤 H 𝓜 𝓖 𝓡)))

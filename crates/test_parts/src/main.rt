@@ -1,0 +1,81 @@
+// Runs what no other program runs, and prints one line for each check: the entries of descriptions as parts of their payload, and the
+// samples of a table by runs.
+use base_ids::DescriptionIndex;
+use group_fragments::FoundPart;
+use libc::STDOUT_FILENO;
+use table_front::TableKind;
+use table_runs::NextRun;
+use table_runs::ReadTable;
+use table_runs::first_run;
+use table_runs::next_run;
+use table_runs::read_table;
+
+fn tell(name: &[u8], same: bool) {
+    io::write_all(STDOUT_FILENO, name);
+    if same {
+        io::write_all(STDOUT_FILENO, b": ok\n");
+    } else {
+        io::write_all(STDOUT_FILENO, b": differs\n");
+    }
+}
+
+// The first run of a table's samples has this count and this index.
+fn first_run_is(s: &[u8], kind: TableKind, count: u32, index: u32) -> bool {
+    match read_table(s, kind) {
+        ReadTable::Table(table) => match next_run(s, table, first_run(table)) {
+            NextRun::Run(n, i, _) => n == count && i.0 == index,
+            NextRun::End => false,
+        },
+        ReadTable::Refused(_) => false,
+    }
+}
+
+fn is_two(part: &[u8], a: u8, b: u8) -> bool {
+    if part.len() != 2 {
+        return false;
+    }
+    part[0] == a && part[1] == b
+}
+
+// The refusal of the lookup over two descriptions; 0 where there is none.
+fn refusal(film: &[u8], fragment: &[u8], raw: u32) -> u32 {
+    match group_fragments::described_place(film, fragment, raw) {
+        FoundPart::Refused(n) => n,
+        FoundPart::Film(_, _) => 0,
+        FoundPart::Fragment(_, _) => 0,
+        FoundPart::Nothing => 0,
+    }
+}
+
+fn main() {
+    let sbgp =
+        b"\x00\x00\x00\x00rap \x00\x00\x00\x02\x00\x00\x00\x03\x00\x00\x00\x01\x00\x00\x00\x02\x00\x00\x00\x09";
+    let csgp = b"\x00\x00\x00\x00rap \x00\x00\x00\x02\x12\x23\x55\x60";
+    let film = b"\x00\x00\x00\x00abcd\x00\x00\x00\x03abcdefghi";
+    tell(b"run of an sbgp", first_run_is(sbgp, TableKind::Sbgp, 3, 1));
+    tell(b"run of a csgp", first_run_is(csgp, TableKind::Csgp, 2, 5));
+    tell(
+        b"entry",
+        is_two(group_sgpd::entry(film, DescriptionIndex(2)), 0x64, 0x65),
+    );
+    tell(
+        b"described in the film",
+        is_two(group_fragments::described(film, film, 2), 0x64, 0x65),
+    );
+    let fragment = b"\x00\x00\x00\x00abcd\x00\x00\x00\x03qrstuvwxy";
+    tell(
+        b"described in the fragment",
+        is_two(
+            group_fragments::described(film, fragment, 0x8000_0002),
+            0x74,
+            0x75,
+        ),
+    );
+    let short = b"\x00\x00\x00\x00abcd\x00\x00\x00";
+    let cut = b"\x02\x00\x00\x00abcd\x00\x00\x00\x00";
+    tell(b"the film's refusal first", refusal(short, cut, 1) == 30);
+    tell(
+        b"no entry",
+        group_sgpd::entry(film, DescriptionIndex(4)).len() == 0,
+    );
+}
