@@ -1,8 +1,23 @@
-/* Film index: atoms of QuickTime and MP4 films.
+/* Film index: the atoms of QuickTime and MP4 films, and the sample groups in them.
  *
- * Each function reads its input and returns a status: FILM_OK, FILM_NONE, or the number of a refusal (docs/REFUSALS.md).
- * Only with FILM_OK is `out` written, and then all of it. Nothing else is touched, no input is kept, and every call ends.
- * A pointer may be dangling, but not null, where its length is 0.
+ * Every function reads what it is lent and keeps nothing. It ends on every input, and relies on no check by its caller.
+ *
+ * Status. Each function but film_rate_of_point returns a status:
+ *   FILM_OK       the value is in `out`, which is then written whole;
+ *   FILM_NONE     there is no such thing, or a walk is done;
+ *   else          the number of a refusal (FILM_HEADER_CUT and so on): the first that applies.
+ * Without FILM_OK nothing is written: `out`, rows and every other lent byte stay as they were. No refusal is 0 or 255.
+ * film_rate_of_point cannot fail and returns its value.
+ *
+ * Lent memory. `out` has the length that the declaration names. What one call is lent must not overlap where any of it is written. A pointer whose
+ * length is 0 is not read: it may dangle, but it must not be null.
+ *
+ * Limits. An input of more than FILM_INPUT_LIMIT bytes is refused before anything else (FILM_INPUT_TOO_LONG). A run of rows that is read may have
+ * FILM_RECORD_LIMIT records, else the same refusal; a run lent only to be filled has no limit.
+ *
+ * Two inputs. FILM_INPUT_TOO_LONG of either comes first; then the refusals of the first input, then those of the second.
+ *
+ * A type is its four bytes as one big-endian number: "roll" is 0x726f6c6c.
  */
 #ifndef FILM_INDEX_H
 #define FILM_INDEX_H
@@ -10,25 +25,76 @@
 #include <stddef.h>
 #include <stdint.h>
 
+#ifdef __cplusplus
+extern "C" {
+#endif
+
+#define FILM_INPUT_LIMIT 67108864u /* bytes */
+#define FILM_RECORD_LIMIT 8388608u /* records, two numbers each */
+
 #define FILM_OK 0u
 #define FILM_NONE 255u
 
+/* Refusals: atoms */
+#define FILM_HEADER_CUT 1u             /* 1 to 7 bytes where a header stands */
+#define FILM_EXTENDED_SIZE_CUT 2u      /* the 64-bit size is incomplete */
+#define FILM_SMALL_SIZE 3u             /* a size of 2 to 7 */
+#define FILM_SMALL_EXTENDED_SIZE 4u    /* a 64-bit size below 16 */
+#define FILM_FAR_END 5u                /* place plus size over 2^64 - 1 */
+#define FILM_CHILD_PAST_PARENT 6u      /* a child ends past its parent */
+#define FILM_OPEN_CHILD 7u             /* an open-ended child of a parent whose end is not known */
+#define FILM_OPEN_BODY 8u              /* the body of an open-ended atom */
+#define FILM_BODY_OVER_LIMIT 9u        /* a body over 67,108,864 bytes */
+#define FILM_BODY_OVER_ENVELOPE 10u    /* a body over max_remaining bytes */
+#define FILM_BODY_CUT 11u              /* bytes of the body are missing */
+/* Refusals: sample tables */
+#define FILM_SHORT_TABLE 20u           /* under 8 bytes */
+#define FILM_NO_PARAMETER 21u
+#define FILM_NO_COUNT 22u
+#define FILM_ROWS_CUT 23u              /* sbgp */
+#define FILM_PATTERN_LENGTH_CUT 24u    /* csgp, here and below */
+#define FILM_PATTERN_COUNT_CUT 25u
+#define FILM_PATTERN_LENGTH_ZERO 26u
+#define FILM_INDEX_CUT 27u
+#define FILM_ROW_COUNT_OVER 28u        /* a row would cover more than 4,294,967,295 samples */
+#define FILM_NO_RECORD_LEFT 29u        /* more rows than records were lent */
+/* Refusals: group descriptions */
+#define FILM_SHORT_SGPD 30u            /* under 12 bytes */
+#define FILM_NO_DEFAULT_INDEX 31u
+#define FILM_NO_ENTRY_COUNT 32u
+#define FILM_NO_ENTRY_LENGTH 33u
+#define FILM_ZERO_SHARE 34u            /* version 0: no byte is left for an entry */
+#define FILM_ENTRY_CUT 35u
+/* Refusals: typed entries */
+#define FILM_SHORT_ENTRY 40u
+#define FILM_NO_POINTS 41u             /* rash */
+#define FILM_POINT_CUT 42u             /* rash */
+#define FILM_TRAILER_CUT 43u           /* rash */
+#define FILM_OFFSETS_CUT 44u           /* alst */
+#define FILM_PIECES_CUT 45u            /* alst: the tail is not a multiple of 4 */
+/* Refusals: every function with an input */
+#define FILM_INPUT_TOO_LONG 55u
+
+/* Atoms. A place is counted in bytes from the first byte of `s`. */
+
 /* The header at place `at` of the `len` bytes at `s`; FILM_NONE where no byte stands there.
- * out: type (four bytes, big-endian), open-ended (0 or 1), total size (0 if open-ended), header length, place of the body. */
+ * out: type, open-ended (0 or 1), total size (0 if open-ended), header length, place of the body. */
 uint32_t film_read_atom_header(const uint8_t *s, size_t len, uint64_t at, uint64_t out[5]);
 
-/* The child at place `at` of a container that ends at `end` (if `known` is not 0); FILM_NONE where the walk is done.
- * out: place of the next child, then the five numbers of the child's header. */
+/* The child at place `at` of a container that ends at `end`, if `known` is not 0; FILM_NONE where the walk is done.
+ * out: place of the next child, then the five numbers of the child's header. An open-ended child ends with its parent. A child may end before its own body
+ * begins (an open-ended one whose header crosses its parent's end), and where no end is known it may pass the input; the next call then says FILM_NONE. */
 uint32_t film_next_child(const uint8_t *s, size_t len, uint64_t at, uint32_t known, uint64_t end, uint64_t out[6]);
 
-/* The body of the atom whose header stands at place `at`. out: place and length of the body. */
+/* The body of the atom whose header stands at place `at`. out: place and length of the body. The header's refusals come first. */
 uint32_t film_read_payload(const uint8_t *s, size_t len, uint64_t at, uint64_t out[2]);
 
 /* The same where the body may have at most `max_remaining` bytes. */
 uint32_t film_read_payload_bounded(const uint8_t *s, size_t len, uint64_t at, uint64_t max_remaining, uint64_t out[2]);
 
-/* Sample tables. `rows` is a run of `rows_len` numbers: pairs of a sample count and a description index; a last number without a partner is
- * no record. With FILM_OK the rows stand in front of the run and the numbers behind them stay; otherwise the whole run stays. */
+/* Sample tables. `s` is the payload of an sbgp or a csgp. `rows` is a run of `rows_len` numbers, two for each record: a sample count and a description index. So
+ * rows_len is twice the number of records, and after n rows were written, lookups over them take 2 * n; a last number without a partner is no record. With FILM_OK the
+ * rows stand in front of the run and the numbers behind them stay. */
 
 /* The rows of an sbgp payload, as they are. out: grouping type, parameter (0 if absent), row count. */
 uint32_t film_parse_sbgp(const uint8_t *s, size_t len, uint32_t *rows, size_t rows_len, uint64_t out[3]);
@@ -42,21 +108,21 @@ uint32_t film_group_index_for_sample(const uint32_t *rows, size_t rows_len, uint
 /* The number of samples that the rows cover. out: the sum. */
 uint32_t film_covered_samples(const uint32_t *rows, size_t rows_len, uint64_t out[1]);
 
-/* Group descriptions. */
+/* Group descriptions. `s` is the payload of an sgpd. */
 
-/* Reads a whole sgpd payload. out: version, grouping type, default length, default index (carried, not used), entry count. */
+/* Reads the whole payload. out: version, grouping type, default length, default index (carried, not used), entry count. */
 uint32_t film_parse_sgpd(const uint8_t *s, size_t len, uint64_t out[5]);
 
 /* Entry `index`, counted from 1, once the whole payload is read; FILM_NONE for 0 and past the count.
  * out: place and length of the entry's bytes in the payload. */
 uint32_t film_entry_place(const uint8_t *s, size_t len, uint32_t index, uint64_t out[2]);
 
-/* Typed entries: `s` is an entry's bytes. Points, offsets and pieces are counted from 0; FILM_NONE past the count. */
-uint32_t film_decode_roll(const uint8_t *s, size_t len, int16_t out[1]); /* distance */
-uint32_t film_decode_prol(const uint8_t *s, size_t len, int16_t out[1]); /* distance */
-uint32_t film_decode_rap(const uint8_t *s, size_t len, uint64_t out[2]); /* known, number of leading samples */
+/* Typed entries. `s` is an entry's bytes. Points, offsets and pieces are counted from 0; the decoder's refusals come first, then FILM_NONE past the count. */
+uint32_t film_decode_roll(const uint8_t *s, size_t len, int64_t out[1]);  /* distance, signed */
+uint32_t film_decode_prol(const uint8_t *s, size_t len, int64_t out[1]);  /* distance, signed */
+uint32_t film_decode_rap(const uint8_t *s, size_t len, uint64_t out[2]);  /* known, number of leading samples */
 uint32_t film_decode_tele(const uint8_t *s, size_t len, uint64_t out[1]); /* independently decodable */
-uint32_t film_decode_sap(const uint8_t *s, size_t len, uint64_t out[2]); /* dependent, type */
+uint32_t film_decode_sap(const uint8_t *s, size_t len, uint64_t out[2]);  /* dependent, type */
 uint32_t film_decode_rash(const uint8_t *s, size_t len, uint64_t out[4]); /* points, maximum, minimum, priority */
 uint32_t film_rash_operation_point(const uint8_t *s, size_t len, uint32_t k, uint64_t out[2]); /* bitrate, share */
 uint32_t film_decode_alst(const uint8_t *s, size_t len, uint64_t out[3]); /* roll count, first output sample, pieces */
@@ -66,13 +132,20 @@ uint32_t film_alst_piece(const uint8_t *s, size_t len, uint32_t k, uint64_t out[
 /* Whether two entries of one grouping type decode to the same value. out: 1 or 0. */
 uint32_t film_decode_alike(uint32_t grouping_type, const uint8_t *a, size_t a_len, const uint8_t *b, size_t b_len, uint64_t out[1]);
 
-/* A csgp index of a fragment. out: the index without bit 31, and that bit (1: the fragment's own description). */
+/* Fragments. */
+
+/* A csgp index of a fragment. out: the index without bit 31, and that bit (1: the fragment's own description). Never refused. */
 uint32_t film_split_csgp_index(uint32_t raw, uint64_t out[2]);
 
-/* The entry that such an index names, in the film-wide or the fragment's sgpd payload. out: 1 for the fragment's, place, length. */
+/* The entry that such an index names, in the film-wide or the fragment's sgpd payload; FILM_NONE where the payload has no such entry.
+ * out: 1 for the fragment's, place and length in that payload. */
 uint32_t film_described_place(const uint8_t *film, size_t film_len, const uint8_t *fragment, size_t fragment_len, uint32_t raw, uint64_t out[3]);
 
-/* bitrate * share / 100, rounded down. */
+/* The value bitrate * share / 100, rounded down. */
 uint64_t film_rate_of_point(uint32_t bitrate, uint16_t share);
+
+#ifdef __cplusplus
+}
+#endif
 
 #endif

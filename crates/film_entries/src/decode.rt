@@ -13,12 +13,12 @@ use group_entries::DecodedSap;
 use group_entries::DecodedTele;
 
 // Hands a distance out.
-fn put_roll(read: DecodedRoll, out: &mut [i16; 1]) -> u32
+fn put_roll(read: DecodedRoll, out: &mut [i64; 1]) -> u32
     ensures { λ r. ⌜ Returns (toldRoll read) rollNumbers (now (out .entry)) (now (out .exit)) r ⌝ }
 {
     match read {
         DecodedRoll::Roll(v) => {
-            let distance = v.roll_distance;
+            let distance = v.roll_distance as i64;
             out[0] = distance;
             0
         }
@@ -26,9 +26,9 @@ fn put_roll(read: DecodedRoll, out: &mut [i16; 1]) -> u32
     }
 }
 
-// out: the signed distance.
+// out: the distance, signed.
 #[no_mangle]
-pub extern "C" fn film_decode_roll(s: &[u8], out: &mut [i16; 1]) -> u32
+pub extern "C" fn film_decode_roll(s: &[u8], out: &mut [i64; 1]) -> u32
     ensures { λ r. ⌜ Returns (within (now (s .entry)) (decodeRoll (now (s .entry)))) rollNumbers (now (out .entry)) (now (out .exit)) r ⌝ }
 {
     put_roll(group_entries::decode_roll(s), out)
@@ -36,7 +36,7 @@ pub extern "C" fn film_decode_roll(s: &[u8], out: &mut [i16; 1]) -> u32
 
 // The same layout as a roll.
 #[no_mangle]
-pub extern "C" fn film_decode_prol(s: &[u8], out: &mut [i16; 1]) -> u32
+pub extern "C" fn film_decode_prol(s: &[u8], out: &mut [i64; 1]) -> u32
     ensures { λ r. ⌜ Returns (within (now (s .entry)) (decodeRoll (now (s .entry)))) rollNumbers (now (out .entry)) (now (out .exit)) r ⌝ }
 {
     put_roll(group_entries::decode_prol(s), out)

@@ -16,8 +16,20 @@ fn place(record: &[u8]) -> bool {
     test_vector_lines::agrees(record, status, &[out[0], out[1]])
 }
 
-// A distance is stored as its 16 bits.
-fn same_distance(record: &[u8], status: u32, distance: i16) -> bool {
+// A distance is stored as its 64 bits: whether the upper 48 of them are not those of a signed number of 16 bits.
+fn upper_differs(record: &[u8]) -> bool {
+    let seen = test_vector_lines::numbers(record);
+    if seen.len() != 8 {
+        return true;
+    }
+    let upper = base_fields::read_u64(seen, 0) / 65536;
+    if base_fields::read_u16(seen, 6) < 32768 {
+        return upper != 0;
+    }
+    upper != 281474976710655
+}
+
+fn same_distance(record: &[u8], status: u32, distance: i64) -> bool {
     if test_vector_lines::same_status(record, status) {
         if status != 0 {
             return true;
@@ -26,23 +38,31 @@ fn same_distance(record: &[u8], status: u32, distance: i16) -> bool {
         if seen.len() != 8 {
             return false;
         }
-        return group_entries::signed_u16(base_fields::read_u16(seen, 6)) == distance;
+        let stored = group_entries::signed_u16(base_fields::read_u16(seen, 6));
+        return stored as i64 == distance;
     }
     false
 }
 
-fn roll(record: &[u8]) -> bool {
-    let mut out = [0i16; 1];
-    let status = film_entries::film_decode_roll(test_vector_lines::input(record), &mut out);
-    let distance = out[0];
+fn same_roll(record: &[u8], status: u32, distance: i64) -> bool {
+    if status == 0 {
+        if upper_differs(record) {
+            return false;
+        }
+    }
     same_distance(record, status, distance)
 }
 
+fn roll(record: &[u8]) -> bool {
+    let mut out = [0i64; 1];
+    let status = film_entries::film_decode_roll(test_vector_lines::input(record), &mut out);
+    same_roll(record, status, out[0])
+}
+
 fn prol(record: &[u8]) -> bool {
-    let mut out = [0i16; 1];
+    let mut out = [0i64; 1];
     let status = film_entries::film_decode_prol(test_vector_lines::input(record), &mut out);
-    let distance = out[0];
-    same_distance(record, status, distance)
+    same_roll(record, status, out[0])
 }
 
 fn rap(record: &[u8]) -> bool {

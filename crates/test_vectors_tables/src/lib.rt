@@ -20,6 +20,9 @@ fn same_rows(seen: &[u8], rows: &[u32], count: u64) -> bool {
     if rows.len() < n {
         return false;
     }
+    if n % 2 != 0 {
+        return false;
+    }
     if (n / 2) as u64 != count {
         return false;
     }

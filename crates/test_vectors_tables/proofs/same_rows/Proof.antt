@@ -19,6 +19,9 @@ returns c = search needs
 returns-2 : tie.Need-returns-2 Inv-loop μ-loop
 returns-2 c = search needs
 
+returns-3 : tie.Need-returns-3 Inv-loop μ-loop
+returns-3 c = search needs
+
 loop-holds : tie.Need-loop-holds Inv-loop μ-loop
 loop-holds c = search needs
 
@@ -28,17 +31,17 @@ mul-read-u64 c = search needs
 read-u64-requires : tie.Need-read-u64-requires Inv-loop μ-loop
 read-u64-requires c κs = search needs
 
-mul-if3 : tie.Need-mul-if3 Inv-loop μ-loop
-mul-if3 c = search needs
+mul-if4 : tie.Need-mul-if4 Inv-loop μ-loop
+mul-if4 c = search needs
 
-shared-slice-read-if3 : tie.Need-shared-slice-read-if3 Inv-loop μ-loop
-shared-slice-read-if3 c = search needs
+shared-slice-read-if4 : tie.Need-shared-slice-read-if4 Inv-loop μ-loop
+shared-slice-read-if4 c = search needs
 
-cast-if3 : tie.Need-cast-if3 Inv-loop μ-loop
-cast-if3 c = omega (arith, c .shared-slice-known3 .given (c .before .before .before .loop .k))
+cast-if4 : tie.Need-cast-if4 Inv-loop μ-loop
+cast-if4 c = omega (arith, c .shared-slice-known3 .given (c .before .before .before .loop .k))
 
-returns-3 : tie.Need-returns-3 Inv-loop μ-loop
-returns-3 c = search needs
+returns-4 : tie.Need-returns-4 Inv-loop μ-loop
+returns-4 c = search needs
 
 add-k : tie.Need-add-k Inv-loop μ-loop
 add-k c = search needs
@@ -49,8 +52,8 @@ loop-less c = search needs
 loop-again : tie.Need-loop-again Inv-loop μ-loop
 loop-again c = search needs
 
-returns-4 : tie.Need-returns-4 Inv-loop μ-loop
-returns-4 c = search needs
+returns-5 : tie.Need-returns-5 Inv-loop μ-loop
+returns-5 c = search needs
 
 pub same-rows-spec : {M : Type 1} → statement M
 same-rows-spec =
@@ -60,14 +63,15 @@ same-rows-spec =
     μ-loop
     returns
     returns-2
+    returns-3
     loop-holds
     mul-read-u64
     read-u64-requires
-    mul-if3
-    shared-slice-read-if3
-    cast-if3
-    returns-3
+    mul-if4
+    shared-slice-read-if4
+    cast-if4
+    returns-4
     add-k
     loop-less
     loop-again
-    returns-4)
+    returns-5)

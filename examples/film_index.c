@@ -1,0 +1,159 @@
+/* Every call of film_index.h once, with its answer. Exits with 1 at the first answer that is not the expected one. */
+#include <inttypes.h>
+#include <stdio.h>
+#include <string.h>
+
+#include "film_index.h"
+
+static int failures;
+
+static void expect(const char *call, uint64_t got, uint64_t want) {
+    if (got != want) {
+        printf("%s: %" PRIu64 ", not %" PRIu64 "\n", call, got, want);
+        failures++;
+    }
+}
+
+static void expect_all(const char *call, const uint64_t *got, const uint64_t *want, size_t n) {
+    for (size_t i = 0; i < n; i++) {
+        expect(call, got[i], want[i]);
+    }
+}
+
+/* A film's front: a container `stbl` of 92 bytes with an sbgp, a csgp and an sgpd of type roll. */
+static const uint8_t film[] = {
+    0, 0, 0, 92, 's', 't', 'b', 'l',
+    /* sbgp, version 0: rows (2,1), (1,0) */
+    0, 0, 0, 36, 's', 'b', 'g', 'p', 0, 0, 0, 0, 'r', 'o', 'l', 'l', 0, 0, 0, 2, 0, 0, 0, 2, 0, 0, 0, 1, 0, 0, 0, 1, 0, 0, 0, 0,
+    /* csgp, fields of 4 bits: [1,2] over 3 samples */
+    0, 0, 0, 22, 'c', 's', 'g', 'p', 0, 0, 0, 0, 'r', 'o', 'l', 'l', 0, 0, 0, 1, 0x23, 0x12,
+    /* sgpd, version 1, default length 2: one entry, distance -2 */
+    0, 0, 0, 26, 's', 'g', 'p', 'd', 1, 0, 0, 0, 'r', 'o', 'l', 'l', 0, 0, 0, 2, 0, 0, 0, 1, 0xff, 0xfe,
+};
+
+static void atoms(void) {
+    uint64_t header[5], child[6], body[2];
+    const uint64_t stbl[5] = {0x7374626c, 0, 92, 8, 8};
+    expect("film_read_atom_header", film_read_atom_header(film, sizeof film, 0, header), FILM_OK);
+    expect_all("film_read_atom_header", header, stbl, 5);
+    expect("film_read_atom_header", film_read_atom_header(film, 7, 0, header), FILM_HEADER_CUT);
+    expect("film_read_atom_header", film_read_atom_header(film, sizeof film, sizeof film, header), FILM_NONE);
+
+    /* the children of stbl: three of them, then done */
+    uint64_t at = 8, count = 0;
+    uint32_t status;
+    while ((status = film_next_child(film, sizeof film, at, 1, 92, child)) == FILM_OK) {
+        at = child[0];
+        count++;
+    }
+    expect("film_next_child", status, FILM_NONE);
+    expect("film_next_child", count, 3);
+    expect("film_next_child", film_next_child(film, sizeof film, 8, 1, 40, child), FILM_CHILD_PAST_PARENT);
+
+    expect("film_read_payload", film_read_payload(film, sizeof film, 8, body), FILM_OK);
+    expect("film_read_payload", body[0], 16);
+    expect("film_read_payload", body[1], 28);
+    expect("film_read_payload_bounded", film_read_payload_bounded(film, sizeof film, 8, 28, body), FILM_OK);
+    expect("film_read_payload_bounded", film_read_payload_bounded(film, sizeof film, 8, 27, body), FILM_BODY_OVER_ENVELOPE);
+}
+
+static void tables(void) {
+    const uint8_t *sbgp = film + 16, *csgp = film + 52;
+    uint32_t rows[8];
+    uint64_t head[3], one[1];
+    memset(rows, 0x77, sizeof rows);
+    expect("film_parse_sbgp", film_parse_sbgp(sbgp, 28, rows, 2, head), FILM_NO_RECORD_LEFT);
+    expect("film_parse_sbgp", rows[0], 0x77777777);
+    expect("film_parse_sbgp", film_parse_sbgp(sbgp, 28, rows, 8, head), FILM_OK);
+    expect("film_parse_sbgp", head[0], 0x726f6c6c);
+    expect("film_parse_sbgp", head[1], 0);
+    expect("film_parse_sbgp", head[2], 2);
+    expect("film_parse_sbgp", rows[0], 2);
+    expect("film_parse_sbgp", rows[1], 1);
+    expect("film_parse_sbgp", rows[4], 0x77777777);
+
+    expect("film_parse_csgp", film_parse_csgp(csgp, 14, rows, 8, head), FILM_OK);
+    expect("film_parse_csgp", head[2], 3);
+    expect("film_parse_csgp", rows[5], 1);
+    /* sample 1 has the index 2; sample 3 is past the end */
+    expect("film_group_index_for_sample", film_group_index_for_sample(rows, 2 * head[2], 1, one), FILM_OK);
+    expect("film_group_index_for_sample", one[0], 2);
+    expect("film_group_index_for_sample", film_group_index_for_sample(rows, 2 * head[2], 3, one), FILM_OK);
+    expect("film_group_index_for_sample", one[0], 0);
+    expect("film_covered_samples", film_covered_samples(rows, 2 * head[2], one), FILM_OK);
+    expect("film_covered_samples", one[0], 3);
+}
+
+static void descriptions(void) {
+    const uint8_t *sgpd = film + 74;
+    uint64_t head[5], place[2], split[2], part[3];
+    const uint64_t want[5] = {1, 0x726f6c6c, 2, 0, 1};
+    expect("film_parse_sgpd", film_parse_sgpd(sgpd, 18, head), FILM_OK);
+    expect_all("film_parse_sgpd", head, want, 5);
+    expect("film_entry_place", film_entry_place(sgpd, 18, 1, place), FILM_OK);
+    expect("film_entry_place", place[0], 16);
+    expect("film_entry_place", place[1], 2);
+    expect("film_entry_place", film_entry_place(sgpd, 18, 2, place), FILM_NONE);
+    expect("film_entry_place", film_entry_place(sgpd, 17, 1, place), FILM_ENTRY_CUT);
+
+    expect("film_split_csgp_index", film_split_csgp_index(0x80000001u, split), FILM_OK);
+    expect("film_split_csgp_index", split[0], 1);
+    expect("film_split_csgp_index", split[1], 1);
+    expect("film_described_place", film_described_place(sgpd, 18, sgpd, 18, 0x80000001u, part), FILM_OK);
+    expect("film_described_place", part[0], 1);
+    expect("film_described_place", part[1], 16);
+    expect("film_described_place", part[2], 2);
+    expect("film_described_place", film_described_place(sgpd, 11, sgpd, 18, 1, part), FILM_SHORT_SGPD);
+    expect("film_rate_of_point", film_rate_of_point(4294967295u, 65535), UINT64_C(2814706816778));
+}
+
+static void entries(void) {
+    static const uint8_t distance[] = {0xff, 0xfe}, bits[] = {0x83};
+    static const uint8_t rash[] = {0, 1, 0, 7, 0, 0, 0, 8, 0, 0, 0, 9, 5};
+    static const uint8_t alst[] = {0, 1, 0, 6, 0, 0, 0, 3, 0, 4, 0, 5};
+    int64_t signed_out[1];
+    uint64_t out[4];
+    expect("film_decode_roll", film_decode_roll(distance, 2, signed_out), FILM_OK);
+    expect("film_decode_roll", signed_out[0] == -2, 1);
+    expect("film_decode_roll", film_decode_roll(distance, 1, signed_out), FILM_SHORT_ENTRY);
+    expect("film_decode_prol", film_decode_prol(distance, 2, signed_out), FILM_OK);
+    expect("film_decode_prol", signed_out[0] == -2, 1);
+    expect("film_decode_rap", film_decode_rap(bits, 1, out), FILM_OK);
+    expect("film_decode_rap", out[0] * 1000 + out[1], 1003);
+    expect("film_decode_tele", film_decode_tele(bits, 1, out), FILM_OK);
+    expect("film_decode_tele", out[0], 1);
+    expect("film_decode_sap", film_decode_sap(bits, 1, out), FILM_OK);
+    expect("film_decode_sap", out[0] * 1000 + out[1], 1003);
+    expect("film_decode_rash", film_decode_rash(rash, sizeof rash, out), FILM_OK);
+    const uint64_t plain[4] = {1, 8, 9, 5};
+    expect_all("film_decode_rash", out, plain, 4);
+    expect("film_decode_rash", film_decode_rash(rash, 12, out), FILM_TRAILER_CUT);
+    expect("film_rash_operation_point", film_rash_operation_point(rash, sizeof rash, 0, out), FILM_OK);
+    expect("film_rash_operation_point", out[0] * 1000 + out[1], 7);
+    expect("film_rash_operation_point", film_rash_operation_point(rash, sizeof rash, 1, out), FILM_NONE);
+    expect("film_decode_alst", film_decode_alst(alst, sizeof alst, out), FILM_OK);
+    const uint64_t startup[3] = {1, 6, 1};
+    expect_all("film_decode_alst", out, startup, 3);
+    expect("film_decode_alst", film_decode_alst(alst, 11, out), FILM_PIECES_CUT);
+    expect("film_alst_sample_offset", film_alst_sample_offset(alst, sizeof alst, 0, out), FILM_OK);
+    expect("film_alst_sample_offset", out[0], 3);
+    expect("film_alst_piece", film_alst_piece(alst, sizeof alst, 0, out), FILM_OK);
+    expect("film_alst_piece", out[0] * 1000 + out[1], 4005);
+    /* the middle bits of a "sap " do not count */
+    static const uint8_t other[] = {0xf3};
+    expect("film_decode_alike", film_decode_alike(0x73617020, bits, 1, other, 1, out), FILM_OK);
+    expect("film_decode_alike", out[0], 1);
+    expect("film_decode_alike", film_decode_alike(0x72617020, bits, 1, other, 1, out), FILM_OK);
+    expect("film_decode_alike", out[0], 0);
+}
+
+int main(void) {
+    atoms();
+    tables();
+    descriptions();
+    entries();
+    if (failures == 0) {
+        puts("film_index.h: every call gave its answer");
+    }
+    return failures == 0 ? 0 : 1;
+}

@@ -1,0 +1,383 @@
+//! The film index for Rust: safe functions over the C interface (include/film_index.h), with the names of the Rust that the library is a port of.
+//! Only `core` is used. Add this file as a module and link libfilm_index.a.
+//!
+//! Nothing is allocated: bodies and entries are parts of the input, rows stand in a slice that the caller lends, and points, offsets and pieces are read by number.
+
+/// The longest input, in bytes.
+pub const INPUT_LIMIT: usize = 67_108_864;
+/// The longest slice of rows that a lookup reads.
+pub const RECORD_LIMIT: usize = 8_388_608;
+
+macro_rules! refusals {
+    ($($(#[$note:meta])* $name:ident = $number:literal,)*) => {
+        /// Why an input is refused; `number` is the status of the C interface.
+        #[derive(Clone, Copy, Debug, PartialEq, Eq)]
+        #[repr(u32)]
+        pub enum Refusal {
+            $($(#[$note])* $name = $number,)*
+        }
+
+        impl Refusal {
+            pub const ALL: &'static [Refusal] = &[$(Refusal::$name),*];
+
+            fn of(status: u32) -> Refusal {
+                match status {
+                    $($number => Refusal::$name,)*
+                    _ => panic!("a status that film_index.h does not name"),
+                }
+            }
+        }
+    };
+}
+
+refusals! {
+    HeaderCut = 1,
+    ExtendedSizeCut = 2,
+    SmallSize = 3,
+    SmallExtendedSize = 4,
+    FarEnd = 5,
+    ChildPastParent = 6,
+    OpenChild = 7,
+    OpenBody = 8,
+    BodyOverLimit = 9,
+    BodyOverEnvelope = 10,
+    BodyCut = 11,
+    ShortTable = 20,
+    NoParameter = 21,
+    NoCount = 22,
+    RowsCut = 23,
+    PatternLengthCut = 24,
+    PatternCountCut = 25,
+    PatternLengthZero = 26,
+    IndexCut = 27,
+    RowCountOver = 28,
+    NoRecordLeft = 29,
+    ShortSgpd = 30,
+    NoDefaultIndex = 31,
+    NoEntryCount = 32,
+    NoEntryLength = 33,
+    ZeroShare = 34,
+    EntryCut = 35,
+    ShortEntry = 40,
+    NoPoints = 41,
+    PointCut = 42,
+    TrailerCut = 43,
+    OffsetsCut = 44,
+    PiecesCut = 45,
+    InputTooLong = 55,
+}
+
+impl Refusal {
+    pub fn number(self) -> u32 {
+        self as u32
+    }
+}
+
+pub type Result<T> = core::result::Result<T, Refusal>;
+
+/// The functions as C has them.
+pub mod raw {
+    unsafe extern "C" {
+        pub fn film_read_atom_header(s: *const u8, len: usize, at: u64, out: *mut [u64; 5]) -> u32;
+        pub fn film_next_child(s: *const u8, len: usize, at: u64, known: u32, end: u64, out: *mut [u64; 6]) -> u32;
+        pub fn film_read_payload(s: *const u8, len: usize, at: u64, out: *mut [u64; 2]) -> u32;
+        pub fn film_read_payload_bounded(s: *const u8, len: usize, at: u64, max_remaining: u64, out: *mut [u64; 2]) -> u32;
+        pub fn film_parse_sbgp(s: *const u8, len: usize, rows: *mut u32, rows_len: usize, out: *mut [u64; 3]) -> u32;
+        pub fn film_parse_csgp(s: *const u8, len: usize, rows: *mut u32, rows_len: usize, out: *mut [u64; 3]) -> u32;
+        pub fn film_group_index_for_sample(rows: *const u32, rows_len: usize, sample: u32, out: *mut [u64; 1]) -> u32;
+        pub fn film_covered_samples(rows: *const u32, rows_len: usize, out: *mut [u64; 1]) -> u32;
+        pub fn film_parse_sgpd(s: *const u8, len: usize, out: *mut [u64; 5]) -> u32;
+        pub fn film_entry_place(s: *const u8, len: usize, index: u32, out: *mut [u64; 2]) -> u32;
+        pub fn film_decode_roll(s: *const u8, len: usize, out: *mut [i64; 1]) -> u32;
+        pub fn film_decode_prol(s: *const u8, len: usize, out: *mut [i64; 1]) -> u32;
+        pub fn film_decode_rap(s: *const u8, len: usize, out: *mut [u64; 2]) -> u32;
+        pub fn film_decode_tele(s: *const u8, len: usize, out: *mut [u64; 1]) -> u32;
+        pub fn film_decode_sap(s: *const u8, len: usize, out: *mut [u64; 2]) -> u32;
+        pub fn film_decode_rash(s: *const u8, len: usize, out: *mut [u64; 4]) -> u32;
+        pub fn film_rash_operation_point(s: *const u8, len: usize, k: u32, out: *mut [u64; 2]) -> u32;
+        pub fn film_decode_alst(s: *const u8, len: usize, out: *mut [u64; 3]) -> u32;
+        pub fn film_alst_sample_offset(s: *const u8, len: usize, k: u32, out: *mut [u64; 1]) -> u32;
+        pub fn film_alst_piece(s: *const u8, len: usize, k: u32, out: *mut [u64; 2]) -> u32;
+        pub fn film_decode_alike(kind: u32, a: *const u8, a_len: usize, b: *const u8, b_len: usize, out: *mut [u64; 1]) -> u32;
+        pub fn film_split_csgp_index(raw: u32, out: *mut [u64; 2]) -> u32;
+        pub fn film_described_place(film: *const u8, film_len: usize, fragment: *const u8, fragment_len: usize, raw: u32, out: *mut [u64; 3]) -> u32;
+        pub fn film_rate_of_point(bitrate: u32, share: u16) -> u64;
+    }
+
+    pub const OK: u32 = 0;
+    pub const NONE: u32 = 255;
+}
+
+/// A call with an `out` of N numbers: the value, or none.
+fn call<const N: usize>(function: impl FnOnce(*mut [u64; N]) -> u32) -> Result<Option<[u64; N]>> {
+    let mut out = [0; N];
+    match function(&raw mut out) {
+        raw::OK => Ok(Some(out)),
+        raw::NONE => Ok(None),
+        status => Err(Refusal::of(status)),
+    }
+}
+
+/// The same of a call that never gives none.
+fn value<const N: usize>(function: impl FnOnce(*mut [u64; N]) -> u32) -> Result<[u64; N]> {
+    Ok(call(function)?.expect("a value or a refusal"))
+}
+
+fn fourcc(n: u64) -> [u8; 4] {
+    (n as u32).to_be_bytes()
+}
+
+#[derive(Clone, Copy, Debug, PartialEq, Eq)]
+pub struct AtomHeader {
+    pub fourcc: [u8; 4],
+    /// None: open-ended.
+    pub total_size: Option<u64>,
+    pub header_len: u64,
+    pub payload_offset: u64,
+}
+
+fn header([kind, open, size, header_len, payload_offset]: [u64; 5]) -> AtomHeader {
+    AtomHeader { fourcc: fourcc(kind), total_size: (open == 0).then_some(size), header_len, payload_offset }
+}
+
+/// The header at a place of the input; None where no byte stands there.
+pub fn read_atom_header(s: &[u8], at: u64) -> Result<Option<AtomHeader>> {
+    Ok(call(|out| unsafe { raw::film_read_atom_header(s.as_ptr(), s.len(), at, out) })?.map(header))
+}
+
+/// The child at a place of a container, and the place of the next one; None where the walk is done. For `walk_children`, call it from the container's first
+/// place on until it gives None.
+pub fn next_child(s: &[u8], at: u64, parent_payload_end: Option<u64>) -> Result<Option<(AtomHeader, u64)>> {
+    let (known, end) = parent_payload_end.map_or((0, 0), |end| (1, end));
+    let told = call(|out| unsafe { raw::film_next_child(s.as_ptr(), s.len(), at, known, end, out) })?;
+    Ok(told.map(|[next, a, b, c, d, e]: [u64; 6]| (header([a, b, c, d, e]), next)))
+}
+
+fn part(s: &[u8], place: u64, size: u64) -> &[u8] {
+    &s[place as usize..(place + size) as usize]
+}
+
+/// The body of the atom at a place; None where no byte stands there.
+pub fn read_payload(s: &[u8], at: u64) -> Result<Option<&[u8]>> {
+    Ok(call(|out| unsafe { raw::film_read_payload(s.as_ptr(), s.len(), at, out) })?.map(|[place, size]| part(s, place, size)))
+}
+
+/// The same where the body may have at most `max_remaining` bytes.
+pub fn read_payload_bounded(s: &[u8], at: u64, max_remaining: u64) -> Result<Option<&[u8]>> {
+    let told = call(|out| unsafe { raw::film_read_payload_bounded(s.as_ptr(), s.len(), at, max_remaining, out) })?;
+    Ok(told.map(|[place, size]| part(s, place, size)))
+}
+
+/// A row: so many samples of one description index. A slice of rows lies in memory as the pairs of numbers that C has.
+#[derive(Clone, Copy, Debug, Default, PartialEq, Eq)]
+#[repr(C)]
+pub struct SampleToGroupEntry {
+    pub sample_count: u32,
+    pub group_description_index: u32,
+}
+
+/// What a table's reader found beside the rows.
+#[derive(Clone, Copy, Debug, PartialEq, Eq)]
+pub struct SampleToGroup {
+    pub grouping_type: [u8; 4],
+    pub grouping_type_parameter: u32,
+    /// How many rows stand in front of the lent ones.
+    pub entry_count: usize,
+}
+
+type TableReader = unsafe extern "C" fn(*const u8, usize, *mut u32, usize, *mut [u64; 3]) -> u32;
+
+fn parse(reader: TableReader, payload: &[u8], rows: &mut [SampleToGroupEntry]) -> Result<SampleToGroup> {
+    let [kind, parameter, count] = value(|out| unsafe { reader(payload.as_ptr(), payload.len(), rows.as_mut_ptr().cast(), 2 * rows.len(), out) })?;
+    Ok(SampleToGroup { grouping_type: fourcc(kind), grouping_type_parameter: parameter as u32, entry_count: count as usize })
+}
+
+pub fn parse_sbgp(payload: &[u8], rows: &mut [SampleToGroupEntry]) -> Result<SampleToGroup> {
+    parse(raw::film_parse_sbgp, payload, rows)
+}
+
+pub fn parse_csgp(payload: &[u8], rows: &mut [SampleToGroupEntry]) -> Result<SampleToGroup> {
+    parse(raw::film_parse_csgp, payload, rows)
+}
+
+/// The description index of a sample (both as in the Rust: samples from 0, descriptions from 1); 0 past the last row.
+pub fn group_index_for_sample(rows: &[SampleToGroupEntry], sample: u32) -> Result<u32> {
+    let [index] = value(|out| unsafe { raw::film_group_index_for_sample(rows.as_ptr().cast(), 2 * rows.len(), sample, out) })?;
+    Ok(index as u32)
+}
+
+pub fn covered_samples(rows: &[SampleToGroupEntry]) -> Result<u64> {
+    let [sum] = value(|out| unsafe { raw::film_covered_samples(rows.as_ptr().cast(), 2 * rows.len(), out) })?;
+    Ok(sum)
+}
+
+#[derive(Clone, Copy, Debug, PartialEq, Eq)]
+pub struct SampleGroupDescription {
+    pub version: u8,
+    pub grouping_type: [u8; 4],
+    pub default_length: u32,
+    /// Carried, not used.
+    pub default_sample_description_index: u32,
+    pub entry_count: u32,
+}
+
+pub fn parse_sgpd(payload: &[u8]) -> Result<SampleGroupDescription> {
+    let [version, kind, length, index, count] = value(|out| unsafe { raw::film_parse_sgpd(payload.as_ptr(), payload.len(), out) })?;
+    Ok(SampleGroupDescription {
+        version: version as u8,
+        grouping_type: fourcc(kind),
+        default_length: length as u32,
+        default_sample_description_index: index as u32,
+        entry_count: count as u32,
+    })
+}
+
+/// Entry `index`, counted from 1, of an sgpd payload; None for 0 and past the count.
+pub fn entry(payload: &[u8], index: u32) -> Result<Option<&[u8]>> {
+    let told = call(|out| unsafe { raw::film_entry_place(payload.as_ptr(), payload.len(), index, out) })?;
+    Ok(told.map(|[place, size]| part(payload, place, size)))
+}
+
+#[derive(Clone, Copy, Debug, PartialEq, Eq)]
+pub struct RollRecovery {
+    pub roll_distance: i16,
+}
+
+pub fn decode_roll(payload: &[u8]) -> Result<RollRecovery> {
+    let [distance] = value(|out| unsafe { raw::film_decode_roll(payload.as_ptr(), payload.len(), out.cast()) })?;
+    Ok(RollRecovery { roll_distance: distance as i16 })
+}
+
+#[derive(Clone, Copy, Debug, PartialEq, Eq)]
+pub struct AudioPreRoll {
+    pub roll_distance: i16,
+}
+
+pub fn decode_prol(payload: &[u8]) -> Result<AudioPreRoll> {
+    let [distance] = value(|out| unsafe { raw::film_decode_prol(payload.as_ptr(), payload.len(), out.cast()) })?;
+    Ok(AudioPreRoll { roll_distance: distance as i16 })
+}
+
+#[derive(Clone, Copy, Debug, PartialEq, Eq)]
+pub struct VisualRandomAccess {
+    pub num_leading_samples_known: bool,
+    pub num_leading_samples: u8,
+}
+
+pub fn decode_rap(payload: &[u8]) -> Result<VisualRandomAccess> {
+    let [known, number] = value(|out| unsafe { raw::film_decode_rap(payload.as_ptr(), payload.len(), out) })?;
+    Ok(VisualRandomAccess { num_leading_samples_known: known == 1, num_leading_samples: number as u8 })
+}
+
+#[derive(Clone, Copy, Debug, PartialEq, Eq)]
+pub struct TemporalLevel {
+    pub level_independently_decodable: bool,
+}
+
+pub fn decode_tele(payload: &[u8]) -> Result<TemporalLevel> {
+    let [bit] = value(|out| unsafe { raw::film_decode_tele(payload.as_ptr(), payload.len(), out) })?;
+    Ok(TemporalLevel { level_independently_decodable: bit == 1 })
+}
+
+#[derive(Clone, Copy, Debug, PartialEq, Eq)]
+pub struct StreamAccessPoint {
+    pub dependent: bool,
+    pub sap_type: u8,
+}
+
+pub fn decode_sap(payload: &[u8]) -> Result<StreamAccessPoint> {
+    let [dependent, kind] = value(|out| unsafe { raw::film_decode_sap(payload.as_ptr(), payload.len(), out) })?;
+    Ok(StreamAccessPoint { dependent: dependent == 1, sap_type: kind as u8 })
+}
+
+/// The plain fields of a rash; its points are read by number.
+#[derive(Clone, Copy, Debug, PartialEq, Eq)]
+pub struct RateShare {
+    pub operation_point_count: u16,
+    pub maximum_bitrate: u32,
+    pub minimum_bitrate: u32,
+    pub discard_priority: u8,
+}
+
+pub fn decode_rash(payload: &[u8]) -> Result<RateShare> {
+    let [points, maximum, minimum, priority] = value(|out| unsafe { raw::film_decode_rash(payload.as_ptr(), payload.len(), out) })?;
+    Ok(RateShare {
+        operation_point_count: points as u16,
+        maximum_bitrate: maximum as u32,
+        minimum_bitrate: minimum as u32,
+        discard_priority: priority as u8,
+    })
+}
+
+#[derive(Clone, Copy, Debug, PartialEq, Eq)]
+pub struct RateShareOperationPoint {
+    pub available_bitrate: u32,
+    pub target_rate_share: u16,
+}
+
+/// Point `k` of a rash, counted from 0; None past the count.
+pub fn rash_operation_point(payload: &[u8], k: u32) -> Result<Option<RateShareOperationPoint>> {
+    let told = call(|out| unsafe { raw::film_rash_operation_point(payload.as_ptr(), payload.len(), k, out) })?;
+    Ok(told.map(|[bitrate, share]| RateShareOperationPoint { available_bitrate: bitrate as u32, target_rate_share: share as u16 }))
+}
+
+/// The plain fields of an alst; its offsets and pieces are read by number.
+#[derive(Clone, Copy, Debug, PartialEq, Eq)]
+pub struct AlternativeStartup {
+    pub roll_count: u16,
+    pub first_output_sample: u16,
+    pub piece_count: u32,
+}
+
+pub fn decode_alst(payload: &[u8]) -> Result<AlternativeStartup> {
+    let [rolls, first, pieces] = value(|out| unsafe { raw::film_decode_alst(payload.as_ptr(), payload.len(), out) })?;
+    Ok(AlternativeStartup { roll_count: rolls as u16, first_output_sample: first as u16, piece_count: pieces as u32 })
+}
+
+/// Offset `k` of an alst, counted from 0; None past the count.
+pub fn alst_sample_offset(payload: &[u8], k: u32) -> Result<Option<u32>> {
+    let told = call(|out| unsafe { raw::film_alst_sample_offset(payload.as_ptr(), payload.len(), k, out) })?;
+    Ok(told.map(|[offset]| offset as u32))
+}
+
+#[derive(Clone, Copy, Debug, PartialEq, Eq)]
+pub struct AlternativeStartupPiece {
+    pub num_output_samples: u16,
+    pub num_total_samples: u16,
+}
+
+/// Piece `k` of an alst, counted from 0; None past the count.
+pub fn alst_piece(payload: &[u8], k: u32) -> Result<Option<AlternativeStartupPiece>> {
+    let told = call(|out| unsafe { raw::film_alst_piece(payload.as_ptr(), payload.len(), k, out) })?;
+    Ok(told.map(|[output, total]| AlternativeStartupPiece { num_output_samples: output as u16, num_total_samples: total as u16 }))
+}
+
+/// Whether two entries of one grouping type decode to the same value.
+pub fn decode_alike(grouping_type: [u8; 4], a: &[u8], b: &[u8]) -> Result<bool> {
+    let kind = u32::from_be_bytes(grouping_type);
+    let [same] = value(|out| unsafe { raw::film_decode_alike(kind, a.as_ptr(), a.len(), b.as_ptr(), b.len(), out) })?;
+    Ok(same == 1)
+}
+
+/// A csgp index of a fragment: the index without bit 31, and whether its description is the fragment's own.
+#[derive(Clone, Copy, Debug, PartialEq, Eq)]
+pub struct CsgpIndex {
+    pub index: u32,
+    pub fragment_local: bool,
+}
+
+pub fn split_csgp_index(raw: u32) -> CsgpIndex {
+    let [index, local] = value(|out| unsafe { raw::film_split_csgp_index(raw, out) }).expect("never refused");
+    CsgpIndex { index: index as u32, fragment_local: local == 1 }
+}
+
+/// The entry that such an index names, a part of the film-wide or of the fragment's sgpd payload; None where that has no such entry.
+pub fn described<'a>(film: &'a [u8], fragment: &'a [u8], raw: u32) -> Result<Option<&'a [u8]>> {
+    let told = call(|out| unsafe { raw::film_described_place(film.as_ptr(), film.len(), fragment.as_ptr(), fragment.len(), raw, out) })?;
+    Ok(told.map(|[local, place, size]| part(if local == 1 { fragment } else { film }, place, size)))
+}
+
+/// bitrate * share / 100, rounded down.
+pub fn rate_of_point(bitrate: u32, share: u16) -> u64 {
+    unsafe { raw::film_rate_of_point(bitrate, share) }
+}
