@@ -264,6 +264,11 @@ pub fn run(tally: &mut Tally) {
 /// A sample of the Rust's answers: the boundary headers, whole and cut, and trees. Entries 1 to 4 are the header, the child and the two bodies.
 pub fn vectors(out: &mut Vectors) {
     let mut random = Random::new(4);
+    // A body over the limit within an envelope that has room for it.
+    for size in [67_108_881u64, 1 << 40] {
+        let s = extended(size, b"mdat");
+        sample(out, &s, 0, &[None, Some(u64::MAX)], u64::MAX);
+    }
     for _ in 0..120 {
         let s = tree(&mut random, 2);
         let len = s.len() as u64;

@@ -3,7 +3,7 @@
 use super::MIB;
 use super::ffi::{self, Answer};
 use super::random::Random;
-use super::tables;
+use super::tables::{self, Readers};
 use super::tally::Tally;
 use super::vectors::Vectors;
 use crate::sample_groups;
@@ -120,7 +120,13 @@ fn in_domain(s: &[u8]) -> bool {
 
 fn compare(tally: &mut Tally, random: &mut Random, s: &[u8]) {
     if in_domain(s) {
-        tables::compare(tally, random, "parse_csgp", s, ffi::parse_csgp, sample_groups::parse_csgp);
+        let readers = Readers {
+            payloads: "payloads of csgp",
+            entry: "parse_csgp",
+            ours: ffi::parse_csgp,
+            reference: sample_groups::parse_csgp,
+        };
+        tables::compare(tally, random, &readers, s);
     }
 }
 
@@ -285,6 +291,11 @@ pub fn vectors(out: &mut Vectors) {
             tables::sample(out, 6, &s[..len], 0, sample_groups::parse_csgp(&s[..len]));
         }
     }
+    let parameter = Shape { parameter: true, ..WIDE };
+    let s = payload(&mut random, parameter, 2, &[(2, 3, vec![1, 2]), (1, 1, vec![2])]).unwrap();
+    for len in 0..=s.len() {
+        tables::sample(out, 6, &s[..len], 0, sample_groups::parse_csgp(&s[..len]));
+    }
     for shape in Shape::all() {
         for _ in 0..3 {
             let patterns: Vec<Pattern> = (0..1 + random.below(2))
@@ -319,6 +330,7 @@ pub fn document(out: &mut Vectors) {
     add(4, &[(1, most, vec![1]), (1, most, vec![2])], Answer::Given(vec![rap, 0, 2, most as u64, 1, most as u64, 2]));
     add(2, &[(1, most, vec![1]), (1, most, vec![2])], Answer::Refused(29));
     add(2, &[(2, most, vec![1, 2])], Answer::Refused(29));
+    add(38, &[(2, 20, vec![1, 2])], Answer::Refused(29));
     add(2, &[(3, most, vec![4, 4, 4])], Answer::Given(vec![rap, 0, 1, most as u64, 4]));
     add(4, &[(2, 2, vec![1, 2]), (1, most, vec![2])], Answer::Refused(28));
     add(0, &[(1, 0, vec![1])], Answer::Given(vec![rap, 0, 0]));

@@ -1,5 +1,6 @@
 //! Part 7 of document 01: the typed entries, and whether two of them decode alike.
 
+use super::MIB;
 use super::ffi::{self, Answer, Input};
 use super::random::Random;
 use super::sgpd::TYPES;
@@ -37,14 +38,17 @@ fn element<T, E, U>(read: &Result<T>, list: impl FnOnce(&T) -> &[E], k: u32, f: 
     }
 }
 
+/// Numbers far past every count: a count of 16 bits more, and the sign bit.
+const FAR: [u32; 3] = [1 << 16, (1 << 16) + 1, 1 << 31];
+
 /// Every decoder on the same bytes.
 fn compare(tally: &mut Tally, random: &mut Random, s: &[u8]) {
     let input = Input::new(s);
     let len = s.len();
     let shown = || format!("{:02x?}", &s[..len.min(80)]);
     tally.input("entries");
-    tally.same("decode_roll", ffi::decode_roll(&input, len, false), told(&rust::decode_roll(s), |v| v.roll_distance), &shown);
-    tally.same("decode_prol", ffi::decode_roll(&input, len, true), told(&rust::decode_prol(s), |v| v.roll_distance), &shown);
+    tally.same("decode_roll", ffi::decode_roll(&input, len), told(&rust::decode_roll(s), |v| v.roll_distance as i64), &shown);
+    tally.same("decode_prol", ffi::decode_prol(&input, len), told(&rust::decode_prol(s), |v| v.roll_distance as i64), &shown);
     let rap = told(&rust::decode_rap(s), |v| [v.num_leading_samples_known as u64, v.num_leading_samples as u64]);
     tally.same("decode_rap", ffi::decode_rap(&input, len), rap, &shown);
     let tele = told(&rust::decode_tele(s), |v| [v.level_independently_decodable as u64]);
@@ -62,7 +66,7 @@ fn compare(tally: &mut Tally, random: &mut Random, s: &[u8]) {
     ];
     for (list, count) in counts.into_iter().enumerate() {
         let count = count as u32;
-        for k in [0, 1, count.saturating_sub(1), count, count + 1, random.below(count as u64 + 2) as u32, u32::MAX] {
+        for k in [0, 1, count.saturating_sub(1), count, count + 1, random.below(count as u64 + 2) as u32, u32::MAX, FAR[list]] {
             let shown = || format!("{k} of {}", shown());
             match list {
                 0 => tally.same("rash_operation_point", ffi::rash_operation_point(&input, len, k), point(&rash, k), &shown),
@@ -116,8 +120,9 @@ fn likeness(kind: &[u8; 4], a: &[u8], b: &[u8]) -> Answer<[u64; 1]> {
 
 fn compare_likeness(tally: &mut Tally, kind: &[u8; 4], a: &[u8], b: &[u8]) {
     let (x, y) = (Input::new(a), Input::new(b));
-    let ours = ffi::decode_alike(u32::from_be_bytes(*kind), &x, a.len(), &y, b.len());
-    tally.same("decode_alike", ours, likeness(kind, a, b), &|| format!("{kind:?}: {a:02x?} and {b:02x?}"));
+    let ours = ffi::decode_alike(*kind, &x, a.len(), &y, b.len());
+    let front = |s: &[u8]| s[..s.len().min(80)].to_vec();
+    tally.same("decode_alike", ours, likeness(kind, a, b), &|| format!("{kind:?}: {:02x?} and {:02x?}", front(a), front(b)));
     x.check();
     y.check();
 }
@@ -128,6 +133,36 @@ fn counted(random: &mut Random, count: u16, len: usize) -> Vec<u8> {
     s.extend(random.bytes(len));
     s.truncate(len);
     s
+}
+
+/// The part that takes long inputs.
+pub fn run_long(tally: &mut Tally) {
+    mebibytes(tally, &mut Random::new(17));
+}
+
+/// Entries up to 1 MiB: every decoder, and each type against itself, against one that differs in a byte at either end or in the list, has bytes
+/// behind, or is cut. A tail of more than 65,535 pieces is among them, and 65,535 points.
+fn mebibytes(tally: &mut Tally, random: &mut Random) {
+    for count in [0u16, 1, 2, 1000, 65_534, 65_535] {
+        let [rash, offsets] = [2 + 6 * count as usize + 9, 4 + 4 * count as usize];
+        for len in [rash, offsets + 4 * 65_535, offsets + 4 * 65_536, MIB - 3, MIB - 2, MIB - 1, MIB] {
+            let s = counted(random, count, len);
+            compare(tally, random, &s);
+            for kind in TYPES {
+                compare_likeness(tally, kind, &s, &s);
+                for k in [0, 1, 5, rash - 1, offsets, len - 1] {
+                    let mut other = s.clone();
+                    if let Some(byte) = other.get_mut(k) {
+                        *byte ^= 1;
+                        compare_likeness(tally, kind, &s, &other);
+                    }
+                }
+                compare_likeness(tally, kind, &s, &s[..len - 1]);
+                compare_likeness(tally, kind, &s[..len - len.min(4)], &s);
+                compare_likeness(tally, kind, &s[..1], &s[..len - 1]);
+            }
+        }
+    }
 }
 
 pub fn run(tally: &mut Tally) {
@@ -175,28 +210,39 @@ pub fn run(tally: &mut Tally) {
     }
 }
 
-/// Entries 11 to 20: the decoders, with points, offsets and pieces by number.
+/// Entries 11 to 20: the decoders, with points, offsets and pieces by number. A distance is stored as 64 bits, with its sign.
 pub fn vectors(out: &mut Vectors) {
-    for s in [[0xff, 0xfe], [0x80, 0x00], [0x7f, 0xff]] {
-        out.add(11, &[], &s, told(&rust::decode_roll(&s), |v| vec![v.roll_distance as u16 as u64]));
+    for s in [[0xff, 0xfe], [0x80, 0x00], [0x7f, 0xff], [0x00, 0x80]] {
+        sample(out, &s);
+    }
+    let rash = [0, 2, 0, 0, 0, 5, 0, 7, 0, 0, 0, 6, 0, 8, 0, 0, 0, 9, 0, 0, 0, 3, 1];
+    let one = [0, 1, 0, 7, 0, 0, 0, 8, 0, 0, 0, 9, 5];
+    let alst = [0, 2, 0, 6, 0, 0, 0, 3, 0, 0, 0, 4, 0, 4, 0, 5, 0, 6, 0, 7];
+    for s in [&rash[..], &one, &alst] {
+        for len in (0..=s.len()).rev() {
+            sample(out, &s[..len]);
+        }
     }
     let mut random = Random::new(14);
     for _ in 0..70 {
         let len = random.below(30) as usize;
         let count = random.below(4) as u16;
-        let s = counted(&mut random, count, len);
-        out.add(11, &[], &s, told(&rust::decode_roll(&s), |v| vec![v.roll_distance as u16 as u64]));
-        out.add(12, &[], &s, told(&rust::decode_prol(&s), |v| vec![v.roll_distance as u16 as u64]));
-        out.add(13, &[], &s, told(&rust::decode_rap(&s), |v| vec![v.num_leading_samples_known as u64, v.num_leading_samples as u64]));
-        out.add(14, &[], &s, told(&rust::decode_tele(&s), |v| vec![v.level_independently_decodable as u64]));
-        out.add(15, &[], &s, told(&rust::decode_sap(&s), |v| vec![v.dependent as u64, v.sap_type as u64]));
-        let (rash, alst) = (rust::decode_rash(&s), rust::decode_alst(&s));
-        out.add(16, &[], &s, told(&rash, |v| rash_numbers(v).to_vec()));
-        out.add(18, &[], &s, told(&alst, |v| alst_numbers(v).to_vec()));
-        for k in [0, 1, 3] {
-            out.add(17, &[k], &s, point(&rash, k as u32).map(|n| n.to_vec()));
-            out.add(19, &[k], &s, offset(&alst, k as u32).map(|n| n.to_vec()));
-            out.add(20, &[k], &s, piece(&alst, k as u32).map(|n| n.to_vec()));
-        }
+        sample(out, &counted(&mut random, count, len));
+    }
+}
+
+fn sample(out: &mut Vectors, s: &[u8]) {
+    out.add(11, &[], s, told(&rust::decode_roll(s), |v| vec![v.roll_distance as i64 as u64]));
+    out.add(12, &[], s, told(&rust::decode_prol(s), |v| vec![v.roll_distance as i64 as u64]));
+    out.add(13, &[], s, told(&rust::decode_rap(s), |v| vec![v.num_leading_samples_known as u64, v.num_leading_samples as u64]));
+    out.add(14, &[], s, told(&rust::decode_tele(s), |v| vec![v.level_independently_decodable as u64]));
+    out.add(15, &[], s, told(&rust::decode_sap(s), |v| vec![v.dependent as u64, v.sap_type as u64]));
+    let (rash, alst) = (rust::decode_rash(s), rust::decode_alst(s));
+    out.add(16, &[], s, told(&rash, |v| rash_numbers(v).to_vec()));
+    out.add(18, &[], s, told(&alst, |v| alst_numbers(v).to_vec()));
+    for k in [0, 1, 3] {
+        out.add(17, &[k], s, point(&rash, k as u32).map(|n| n.to_vec()));
+        out.add(19, &[k], s, offset(&alst, k as u32).map(|n| n.to_vec()));
+        out.add(20, &[k], s, piece(&alst, k as u32).map(|n| n.to_vec()));
     }
 }

@@ -1,5 +1,10 @@
 //! The C interface of the library, behind safe functions that watch all lent memory: the input, what stands around it, and
-//! everything that a call may not write.
+//! everything that a call may not write. The module for Rust (rust/film_index.rs) is asked the same and must give the same answer.
+
+use crate::film_index::{self as module, SampleToGroupEntry, raw};
+use std::cell::Cell;
+use std::fmt::Debug;
+use std::sync::atomic::{AtomicU64, Ordering};
 
 /// An answer as document 01 gives it.
 #[derive(Clone, Debug, PartialEq, Eq)]
@@ -19,37 +24,56 @@ impl<T> Answer<T> {
     }
 }
 
-unsafe extern "C" {
-    fn film_read_atom_header(s: *const u8, len: usize, at: u64, out: *mut u64) -> u32;
-    fn film_next_child(s: *const u8, len: usize, at: u64, known: u32, end: u64, out: *mut u64) -> u32;
-    fn film_read_payload(s: *const u8, len: usize, at: u64, out: *mut u64) -> u32;
-    fn film_read_payload_bounded(s: *const u8, len: usize, at: u64, max_remaining: u64, out: *mut u64) -> u32;
-    fn film_parse_sbgp(s: *const u8, len: usize, rows: *mut u32, rows_len: usize, out: *mut u64) -> u32;
-    fn film_parse_csgp(s: *const u8, len: usize, rows: *mut u32, rows_len: usize, out: *mut u64) -> u32;
-    fn film_group_index_for_sample(rows: *const u32, rows_len: usize, sample: u32, out: *mut u64) -> u32;
-    fn film_parse_sgpd(s: *const u8, len: usize, out: *mut u64) -> u32;
-    fn film_entry_place(s: *const u8, len: usize, index: u32, out: *mut u64) -> u32;
-    fn film_decode_roll(s: *const u8, len: usize, out: *mut i16) -> u32;
-    fn film_decode_prol(s: *const u8, len: usize, out: *mut i16) -> u32;
-    fn film_decode_rap(s: *const u8, len: usize, out: *mut u64) -> u32;
-    fn film_decode_tele(s: *const u8, len: usize, out: *mut u64) -> u32;
-    fn film_decode_sap(s: *const u8, len: usize, out: *mut u64) -> u32;
-    fn film_decode_rash(s: *const u8, len: usize, out: *mut u64) -> u32;
-    fn film_rash_operation_point(s: *const u8, len: usize, k: u32, out: *mut u64) -> u32;
-    fn film_decode_alst(s: *const u8, len: usize, out: *mut u64) -> u32;
-    fn film_alst_sample_offset(s: *const u8, len: usize, k: u32, out: *mut u64) -> u32;
-    fn film_alst_piece(s: *const u8, len: usize, k: u32, out: *mut u64) -> u32;
-    fn film_split_csgp_index(raw: u32, out: *mut u64) -> u32;
-    fn film_described_place(film: *const u8, film_len: usize, fragment: *const u8, fragment_len: usize, raw: u32, out: *mut u64) -> u32;
-    fn film_rate_of_point(bitrate: u32, share: u16) -> u64;
-    fn film_decode_alike(kind: u32, a: *const u8, a_len: usize, b: *const u8, b_len: usize, out: *mut u64) -> u32;
-    fn film_covered_samples(rows: *const u32, rows_len: usize, out: *mut u64) -> u32;
+impl<T> From<module::Result<T>> for Answer<T> {
+    fn from(told: module::Result<T>) -> Self {
+        told.map_or_else(|refusal| Answer::Refused(refusal.number()), Answer::Given)
+    }
 }
 
-const OK: u32 = 0;
-const NONE: u32 = 255;
+/// The module's answer where it may also be none.
+fn maybe<T>(told: module::Result<Option<T>>) -> Answer<T> {
+    match told {
+        Ok(Some(value)) => Answer::Given(value),
+        Ok(None) => Answer::None,
+        Err(refusal) => Answer::Refused(refusal.number()),
+    }
+}
+
 const GUARD: u64 = 0xdead_beef_0bad_cafe;
 const GUARDS: usize = 4;
+
+/// How often the module was asked, by all parts together.
+static ASKED: AtomicU64 = AtomicU64::new(0);
+
+/// Over so many bytes only every 8th call asks the module too.
+const LONG: usize = 4096;
+
+thread_local! {
+    static CALLS: Cell<u64> = const { Cell::new(0) };
+    static ASKED_HERE: Cell<u64> = const { Cell::new(0) };
+}
+
+/// The module gives the same answer. `len` is the length of what is lent.
+fn held<T: PartialEq + Debug>(answer: Answer<T>, len: usize, module: impl FnOnce() -> Answer<T>) -> Answer<T> {
+    let calls = CALLS.get();
+    CALLS.set(calls + 1);
+    if len < LONG || calls % 8 == 0 {
+        ASKED_HERE.set(ASKED_HERE.get() + 1);
+        let told = module();
+        assert!(told == answer, "the module for Rust gives {told:?}, the C interface {answer:?}");
+    }
+    answer
+}
+
+/// Adds what this thread asked of the module.
+pub fn leave() {
+    ASKED.fetch_add(ASKED_HERE.take(), Ordering::Relaxed);
+}
+
+/// How often the module was asked by the threads that have left.
+pub fn asked() -> u64 {
+    ASKED.load(Ordering::Relaxed)
+}
 
 /// An input between guard bytes; a call reads the middle.
 pub struct Input {
@@ -66,8 +90,19 @@ impl Input {
     }
 
     fn part(&self, len: usize) -> *const u8 {
+        self.bytes(len).as_ptr()
+    }
+
+    fn bytes(&self, len: usize) -> &[u8] {
         assert!(len + 32 <= self.framed.len());
-        self.framed[16..].as_ptr()
+        &self.framed[16..16 + len]
+    }
+
+    /// Place and length of a part of the input that the module handed back.
+    fn place(&self, part: &[u8]) -> [u64; 2] {
+        let (from, at) = (self.framed[16..].as_ptr().addr(), part.as_ptr().addr());
+        assert!(from <= at && at + part.len() <= from + self.framed.len() - 32, "a part that is not the input's");
+        [(at - from) as u64, part.len() as u64]
     }
 
     /// The input and its frame are as they were.
@@ -77,50 +112,72 @@ impl Input {
 }
 
 /// Calls with an `out` of N numbers between guards: written whole with OK, untouched otherwise.
-fn with_out<const N: usize>(call: impl FnOnce(*mut u64) -> u32) -> Answer<[u64; N]> {
+fn with_out<const N: usize>(call: impl FnOnce(*mut [u64; N]) -> u32) -> Answer<[u64; N]> {
     let mut numbers = [GUARD; 16];
     let framed = &mut numbers[..N + 2 * GUARDS];
-    let status = call(framed[GUARDS..].as_mut_ptr());
+    let status = call(framed[GUARDS..].as_mut_ptr().cast());
     let (front, rest) = framed.split_at(GUARDS);
     let (out, back) = rest.split_at(N);
     assert!(front.iter().chain(back).all(|&g| g == GUARD), "memory beside `out` was written");
-    if status == OK {
+    if status == raw::OK {
+        assert!(out.iter().all(|&g| g != GUARD), "`out` was not written whole");
         return Answer::Given(out.try_into().unwrap());
     }
     assert!(out.iter().all(|&g| g == GUARD), "`out` was written without a value");
-    if status == NONE { Answer::None } else { Answer::Refused(status) }
+    if status == raw::NONE { Answer::None } else { Answer::Refused(status) }
+}
+
+fn kind_number(kind: [u8; 4]) -> u64 {
+    u32::from_be_bytes(kind) as u64
+}
+
+fn header_numbers(h: module::AtomHeader) -> [u64; 5] {
+    [kind_number(h.fourcc), h.total_size.is_none() as u64, h.total_size.unwrap_or(0), h.header_len, h.payload_offset]
 }
 
 /// A header's numbers: type, open, size, header length, place of the body.
 pub fn read_atom_header(s: &Input, len: usize, at: u64) -> Answer<[u64; 5]> {
-    with_out(|out| unsafe { film_read_atom_header(s.part(len), len, at, out) })
+    let told = with_out(|out| unsafe { raw::film_read_atom_header(s.part(len), len, at, out) });
+    held(told, len, || maybe(module::read_atom_header(s.bytes(len), at)).map(header_numbers))
 }
 
 /// The place of the next child, and the header's numbers.
 pub fn next_child(s: &Input, len: usize, at: u64, end: Option<u64>) -> Answer<[u64; 6]> {
-    let (known, end) = match end {
+    let (known, limit) = match end {
         Some(end) => (1, end),
         None => (0, 77),
     };
-    with_out(|out| unsafe { film_next_child(s.part(len), len, at, known, end, out) })
+    let told = with_out(|out| unsafe { raw::film_next_child(s.part(len), len, at, known, limit, out) });
+    held(told, len, || {
+        maybe(module::next_child(s.bytes(len), at, end)).map(|(header, next)| {
+            let [a, b, c, d, e] = header_numbers(header);
+            [next, a, b, c, d, e]
+        })
+    })
 }
 
 /// The place and the length of a body.
 pub fn read_payload(s: &Input, len: usize, at: u64) -> Answer<[u64; 2]> {
-    with_out(|out| unsafe { film_read_payload(s.part(len), len, at, out) })
+    let told = with_out(|out| unsafe { raw::film_read_payload(s.part(len), len, at, out) });
+    held(told, len, || maybe(module::read_payload(s.bytes(len), at)).map(|part| s.place(part)))
 }
 
 pub fn read_payload_bounded(s: &Input, len: usize, at: u64, max_remaining: u64) -> Answer<[u64; 2]> {
-    with_out(|out| unsafe { film_read_payload_bounded(s.part(len), len, at, max_remaining, out) })
+    let told = with_out(|out| unsafe { raw::film_read_payload_bounded(s.part(len), len, at, max_remaining, out) });
+    held(told, len, || maybe(module::read_payload_bounded(s.bytes(len), at, max_remaining)).map(|part| s.place(part)))
 }
 
 /// A table as its reader hands it out: type, parameter and rows (count, index).
 pub type Table = (u32, u32, Vec<(u32, u32)>);
 
 const ROW_GUARD: u32 = 0x7e57_ab1e;
+const ROW: SampleToGroupEntry = SampleToGroupEntry { sample_count: ROW_GUARD, group_description_index: ROW_GUARD };
+
+type RawReader = unsafe extern "C" fn(*const u8, usize, *mut u32, usize, *mut [u64; 3]) -> u32;
+type ModuleReader = fn(&[u8], &mut [SampleToGroupEntry]) -> module::Result<module::SampleToGroup>;
 
 /// Calls a table's reader with a run of `numbers` numbers between guards. Only the rows in front of the run are written.
-fn with_rows(s: &Input, len: usize, numbers: usize, call: unsafe extern "C" fn(*const u8, usize, *mut u32, usize, *mut u64) -> u32) -> Answer<Table> {
+fn with_rows(s: &Input, len: usize, numbers: usize, call: RawReader, module: ModuleReader) -> Answer<Table> {
     let mut framed = vec![ROW_GUARD; numbers + 2 * GUARDS];
     let run = framed[GUARDS..].as_mut_ptr();
     let told = with_out::<3>(|out| unsafe { call(s.part(len), len, run, numbers, out) });
@@ -132,92 +189,137 @@ fn with_rows(s: &Input, len: usize, numbers: usize, call: unsafe extern "C" fn(*
     let (front, back) = (&framed[..GUARDS], &framed[GUARDS + rows..]);
     assert!(front.iter().chain(back).all(|&g| g == ROW_GUARD), "a record behind the rows was written");
     let written = framed[GUARDS..GUARDS + rows].chunks_exact(2).map(|p| (p[0], p[1])).collect();
-    told.map(|[kind, parameter, _]| (kind as u32, parameter as u32, written))
+    let table = told.map(|[kind, parameter, _]| (kind as u32, parameter as u32, written));
+    held(table, len, || {
+        let mut lent = vec![ROW; numbers / 2];
+        let told = module(s.bytes(len), &mut lent);
+        let (rows, behind) = lent.split_at(told.as_ref().map_or(0, |table| table.entry_count));
+        assert!(behind.iter().all(|&row| row == ROW), "a row behind the rows was written");
+        let rows = rows.iter().map(|row| (row.sample_count, row.group_description_index)).collect();
+        Answer::from(told).map(|table| (u32::from_be_bytes(table.grouping_type), table.grouping_type_parameter, rows))
+    })
 }
 
 pub fn parse_sbgp(s: &Input, len: usize, numbers: usize) -> Answer<Table> {
-    with_rows(s, len, numbers, film_parse_sbgp)
+    with_rows(s, len, numbers, raw::film_parse_sbgp, module::parse_sbgp)
 }
 
 pub fn parse_csgp(s: &Input, len: usize, numbers: usize) -> Answer<Table> {
-    with_rows(s, len, numbers, film_parse_csgp)
+    with_rows(s, len, numbers, raw::film_parse_csgp, module::parse_csgp)
+}
+
+/// The pairs of a run as rows; a last number without a partner is none.
+fn as_rows(run: &[u32]) -> &[SampleToGroupEntry] {
+    unsafe { std::slice::from_raw_parts(run.as_ptr().cast(), run.len() / 2) }
 }
 
 pub fn group_index_for_sample(rows: &[u32], sample: u32) -> Answer<u32> {
-    with_out::<1>(|out| unsafe { film_group_index_for_sample(rows.as_ptr(), rows.len(), sample, out) }).map(|[index]| index as u32)
+    let told = with_out::<1>(|out| unsafe { raw::film_group_index_for_sample(rows.as_ptr(), rows.len(), sample, out) }).map(|[index]| index as u32);
+    held(told, rows.len(), || module::group_index_for_sample(as_rows(rows), sample).into())
 }
 
 pub fn covered_samples(rows: &[u32]) -> Answer<u64> {
-    with_out::<1>(|out| unsafe { film_covered_samples(rows.as_ptr(), rows.len(), out) }).map(|[sum]| sum)
+    let told = with_out::<1>(|out| unsafe { raw::film_covered_samples(rows.as_ptr(), rows.len(), out) }).map(|[sum]| sum);
+    held(told, rows.len(), || module::covered_samples(as_rows(rows)).into())
 }
 
 /// Version, type, default length, default index, entry count.
 pub fn parse_sgpd(s: &Input, len: usize) -> Answer<[u64; 5]> {
-    with_out(|out| unsafe { film_parse_sgpd(s.part(len), len, out) })
+    let told = with_out(|out| unsafe { raw::film_parse_sgpd(s.part(len), len, out) });
+    held(told, len, || {
+        Answer::from(module::parse_sgpd(s.bytes(len))).map(|d| {
+            let [length, index, count] = [d.default_length, d.default_sample_description_index, d.entry_count].map(u64::from);
+            [d.version as u64, kind_number(d.grouping_type), length, index, count]
+        })
+    })
 }
 
 pub fn entry_place(s: &Input, len: usize, index: u32) -> Answer<[u64; 2]> {
-    with_out(|out| unsafe { film_entry_place(s.part(len), len, index, out) })
+    let told = with_out(|out| unsafe { raw::film_entry_place(s.part(len), len, index, out) });
+    held(told, len, || maybe(module::entry(s.bytes(len), index)).map(|part| s.place(part)))
 }
 
-/// The distance of a roll or a prol; the guards are numbers of 16 bits here.
-pub fn decode_roll(s: &Input, len: usize, prol: bool) -> Answer<i16> {
-    let call = if prol { film_decode_prol } else { film_decode_roll };
-    let mut framed = [0x5a5a; 3];
-    let status = unsafe { call(s.part(len), len, framed[1..].as_mut_ptr()) };
-    assert!(framed[0] == 0x5a5a && framed[2] == 0x5a5a, "memory beside `out` was written");
-    if status == OK {
-        return Answer::Given(framed[1]);
-    }
-    assert!(framed[1] == 0x5a5a, "`out` was written without a value");
-    Answer::Refused(status)
+pub fn decode_roll(s: &Input, len: usize) -> Answer<i64> {
+    let told = with_out::<1>(|out| unsafe { raw::film_decode_roll(s.part(len), len, out.cast()) }).map(|[distance]| distance as i64);
+    held(told, len, || Answer::from(module::decode_roll(s.bytes(len))).map(|v| v.roll_distance as i64))
+}
+
+pub fn decode_prol(s: &Input, len: usize) -> Answer<i64> {
+    let told = with_out::<1>(|out| unsafe { raw::film_decode_prol(s.part(len), len, out.cast()) }).map(|[distance]| distance as i64);
+    held(told, len, || Answer::from(module::decode_prol(s.bytes(len))).map(|v| v.roll_distance as i64))
 }
 
 pub fn decode_rap(s: &Input, len: usize) -> Answer<[u64; 2]> {
-    with_out(|out| unsafe { film_decode_rap(s.part(len), len, out) })
+    let told = with_out(|out| unsafe { raw::film_decode_rap(s.part(len), len, out) });
+    held(told, len, || Answer::from(module::decode_rap(s.bytes(len))).map(|v| [v.num_leading_samples_known as u64, v.num_leading_samples as u64]))
 }
 
 pub fn decode_tele(s: &Input, len: usize) -> Answer<[u64; 1]> {
-    with_out(|out| unsafe { film_decode_tele(s.part(len), len, out) })
+    let told = with_out(|out| unsafe { raw::film_decode_tele(s.part(len), len, out) });
+    held(told, len, || Answer::from(module::decode_tele(s.bytes(len))).map(|v| [v.level_independently_decodable as u64]))
 }
 
 pub fn decode_sap(s: &Input, len: usize) -> Answer<[u64; 2]> {
-    with_out(|out| unsafe { film_decode_sap(s.part(len), len, out) })
+    let told = with_out(|out| unsafe { raw::film_decode_sap(s.part(len), len, out) });
+    held(told, len, || Answer::from(module::decode_sap(s.bytes(len))).map(|v| [v.dependent as u64, v.sap_type as u64]))
 }
 
 pub fn decode_rash(s: &Input, len: usize) -> Answer<[u64; 4]> {
-    with_out(|out| unsafe { film_decode_rash(s.part(len), len, out) })
+    let told = with_out(|out| unsafe { raw::film_decode_rash(s.part(len), len, out) });
+    held(told, len, || {
+        let numbers = |v: module::RateShare| [v.operation_point_count as u64, v.maximum_bitrate as u64, v.minimum_bitrate as u64, v.discard_priority as u64];
+        Answer::from(module::decode_rash(s.bytes(len))).map(numbers)
+    })
 }
 
 pub fn rash_operation_point(s: &Input, len: usize, k: u32) -> Answer<[u64; 2]> {
-    with_out(|out| unsafe { film_rash_operation_point(s.part(len), len, k, out) })
+    let told = with_out(|out| unsafe { raw::film_rash_operation_point(s.part(len), len, k, out) });
+    held(told, len, || maybe(module::rash_operation_point(s.bytes(len), k)).map(|p| [p.available_bitrate as u64, p.target_rate_share as u64]))
 }
 
 pub fn decode_alst(s: &Input, len: usize) -> Answer<[u64; 3]> {
-    with_out(|out| unsafe { film_decode_alst(s.part(len), len, out) })
+    let told = with_out(|out| unsafe { raw::film_decode_alst(s.part(len), len, out) });
+    held(told, len, || Answer::from(module::decode_alst(s.bytes(len))).map(|v| [v.roll_count as u64, v.first_output_sample as u64, v.piece_count as u64]))
 }
 
 pub fn alst_sample_offset(s: &Input, len: usize, k: u32) -> Answer<[u64; 1]> {
-    with_out(|out| unsafe { film_alst_sample_offset(s.part(len), len, k, out) })
+    let told = with_out(|out| unsafe { raw::film_alst_sample_offset(s.part(len), len, k, out) });
+    held(told, len, || maybe(module::alst_sample_offset(s.bytes(len), k)).map(|offset| [offset as u64]))
 }
 
 pub fn alst_piece(s: &Input, len: usize, k: u32) -> Answer<[u64; 2]> {
-    with_out(|out| unsafe { film_alst_piece(s.part(len), len, k, out) })
+    let told = with_out(|out| unsafe { raw::film_alst_piece(s.part(len), len, k, out) });
+    held(told, len, || maybe(module::alst_piece(s.bytes(len), k)).map(|p| [p.num_output_samples as u64, p.num_total_samples as u64]))
 }
 
-pub fn split_csgp_index(raw: u32) -> Answer<[u64; 2]> {
-    with_out(|out| unsafe { film_split_csgp_index(raw, out) })
+pub fn decode_alike(kind: [u8; 4], a: &Input, a_len: usize, b: &Input, b_len: usize) -> Answer<[u64; 1]> {
+    let number = u32::from_be_bytes(kind);
+    let told = with_out(|out| unsafe { raw::film_decode_alike(number, a.part(a_len), a_len, b.part(b_len), b_len, out) });
+    held(told, a_len + b_len, || Answer::from(module::decode_alike(kind, a.bytes(a_len), b.bytes(b_len))).map(|same| [same as u64]))
+}
+
+pub fn split_csgp_index(index: u32) -> Answer<[u64; 2]> {
+    let told = with_out(|out| unsafe { raw::film_split_csgp_index(index, out) });
+    held(told, 0, || {
+        let split = module::split_csgp_index(index);
+        Answer::Given([split.index as u64, split.fragment_local as u64])
+    })
 }
 
 /// 1 for the fragment, the place and the length.
-pub fn described_place(film: &Input, film_len: usize, fragment: &Input, fragment_len: usize, raw: u32) -> Answer<[u64; 3]> {
-    with_out(|out| unsafe { film_described_place(film.part(film_len), film_len, fragment.part(fragment_len), fragment_len, raw, out) })
+pub fn described_place(film: &Input, film_len: usize, fragment: &Input, fragment_len: usize, index: u32) -> Answer<[u64; 3]> {
+    let told = with_out(|out| unsafe { raw::film_described_place(film.part(film_len), film_len, fragment.part(fragment_len), fragment_len, index, out) });
+    held(told, film_len + fragment_len, || {
+        let local = index >> 31;
+        maybe(module::described(film.bytes(film_len), fragment.bytes(fragment_len), index)).map(|part| {
+            let [place, size] = if local == 1 { fragment.place(part) } else { film.place(part) };
+            [local as u64, place, size]
+        })
+    })
 }
 
 pub fn rate_of_point(bitrate: u32, share: u16) -> u64 {
-    unsafe { film_rate_of_point(bitrate, share) }
-}
-
-pub fn decode_alike(kind: u32, a: &Input, a_len: usize, b: &Input, b_len: usize) -> Answer<[u64; 1]> {
-    with_out(|out| unsafe { film_decode_alike(kind, a.part(a_len), a_len, b.part(b_len), b_len, out) })
+    let rate = unsafe { raw::film_rate_of_point(bitrate, share) };
+    assert!(module::rate_of_point(bitrate, share) == rate, "the module for Rust gives another rate");
+    rate
 }

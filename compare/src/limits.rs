@@ -31,8 +31,8 @@ pub fn run(tally: &mut Tally) {
         check("described", too_long(ffi::described_place(&long, len, &short, 16, 0)));
         check("described", too_long(ffi::described_place(&short, 16, &long, len, 0)));
         check("described", too_long(ffi::described_place(&short, 1, &long, len, 0)));
-        check("decode_roll", too_long(ffi::decode_roll(&long, len, false)));
-        check("decode_prol", too_long(ffi::decode_roll(&long, len, true)));
+        check("decode_roll", too_long(ffi::decode_roll(&long, len)));
+        check("decode_prol", too_long(ffi::decode_prol(&long, len)));
         check("decode_rap", too_long(ffi::decode_rap(&long, len)));
         check("decode_tele", too_long(ffi::decode_tele(&long, len)));
         check("decode_sap", too_long(ffi::decode_sap(&long, len)));
@@ -41,7 +41,7 @@ pub fn run(tally: &mut Tally) {
         check("decode_alst", too_long(ffi::decode_alst(&long, len)));
         check("alst_sample_offset", too_long(ffi::alst_sample_offset(&long, len, u32::MAX)));
         check("alst_piece", too_long(ffi::alst_piece(&long, len, u32::MAX)));
-        for kind in [b"roll", b"abcd"].map(|kind| u32::from_be_bytes(*kind)) {
+        for kind in [*b"roll", *b"abcd"] {
             check("decode_alike", too_long(ffi::decode_alike(kind, &long, len, &short, 16)));
             check("decode_alike", too_long(ffi::decode_alike(kind, &short, 16, &long, len)));
         }

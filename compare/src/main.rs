@@ -16,32 +16,40 @@ mod vectors;
 /// The longest input of document 01's domain.
 const MIB: usize = 1 << 20;
 
+/// The files of stored vectors that hold right answers.
+const FILES: [&str; 4] = ["atoms", "tables", "document", "descriptions"];
+
+fn vectors_of(name: &str) -> vectors::Vectors {
+    let mut vectors = vectors::Vectors::default();
+    let parts: &[fn(&mut vectors::Vectors)] = match name {
+        "atoms" => &[atoms::vectors],
+        "tables" => &[sbgp::vectors, csgp::vectors],
+        "document" => &[sbgp::document, csgp::document],
+        "descriptions" => &[sgpd::vectors, entries::vectors],
+        _ => panic!("vectors of what?"),
+    };
+    parts.iter().for_each(|part| part(&mut vectors));
+    vectors
+}
+
 pub fn main() {
     let words: Vec<String> = std::env::args().skip(1).collect();
-    if words.first().is_some_and(|w| w == "vectors") {
-        let mut vectors = vectors::Vectors::new();
-        match words.get(1).map(String::as_str) {
-            Some("atoms") => atoms::vectors(&mut vectors),
-            Some("tables") => {
-                sbgp::vectors(&mut vectors);
-                csgp::vectors(&mut vectors);
-            }
-            Some("descriptions") => {
-                sgpd::vectors(&mut vectors);
-                entries::vectors(&mut vectors);
-            }
-            Some("document") => csgp::document(&mut vectors),
-            _ => panic!("vectors of what?"),
+    if let [word, name] = words.as_slice() {
+        assert!(word == "vectors", "vectors of what?");
+        match name.as_str() {
+            "damaged" => vectors::print_damaged(&FILES.map(vectors_of)),
+            name => vectors_of(name).print(),
         }
-        vectors.print();
         return;
     }
-    let parts: [fn(&mut tally::Tally); 7] = [csgp::run, csgp::run_long, atoms::run, sgpd::run, entries::run, sbgp::run, limits::run];
+    let parts: [fn(&mut tally::Tally); 9] =
+        [csgp::run, csgp::run_long, atoms::run, sgpd::run, sgpd::run_long, entries::run, entries::run_long, sbgp::run, limits::run];
     let tallies = std::thread::scope(|threads| {
         let running = parts.map(|part| {
             threads.spawn(move || {
                 let mut tally = tally::Tally::new();
                 part(&mut tally);
+                ffi::leave();
                 tally
             })
         });

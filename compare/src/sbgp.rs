@@ -1,9 +1,9 @@
 //! Part 3 of document 01.
 
 use super::MIB;
-use super::ffi;
+use super::ffi::{self, Answer};
 use super::random::Random;
-use super::tables;
+use super::tables::{self, Readers};
 use super::tally::Tally;
 use super::vectors::Vectors;
 use crate::sample_groups;
@@ -23,7 +23,13 @@ fn payload(random: &mut Random, version: u8, count: u32, rows: &[(u32, u32)]) ->
 }
 
 fn compare(tally: &mut Tally, random: &mut Random, s: &[u8]) {
-    tables::compare(tally, random, "parse_sbgp", s, ffi::parse_sbgp, sample_groups::parse_sbgp);
+    let readers = Readers {
+        payloads: "payloads of sbgp",
+        entry: "parse_sbgp",
+        ours: ffi::parse_sbgp,
+        reference: sample_groups::parse_sbgp,
+    };
+    tables::compare(tally, random, &readers, s);
 }
 
 pub fn run(tally: &mut Tally) {
@@ -74,6 +80,10 @@ pub fn vectors(out: &mut Vectors) {
     let mut random = Random::new(7);
     let worked = payload(&mut random, 0, 3, &[(3, 1), (0, 9), (2, 1)]);
     tables::sample(out, 5, &worked, 2, sample_groups::parse_sbgp(&worked));
+    let other = payload(&mut random, 1, 2, &[(3, 1), (2, 9)]);
+    for len in [7, 8, 11, 12, 15, 16, 24, 31, 32] {
+        tables::sample(out, 5, &other[..len], 0, sample_groups::parse_sbgp(&other[..len]));
+    }
     for _ in 0..120 {
         let rows: Vec<(u32, u32)> = (0..random.below(5)).map(|_| (random.pick(&[0, 1, 5, u32::MAX]), random.below(4) as u32)).collect();
         let version = random.below(3) as u8;
@@ -83,5 +93,13 @@ pub fn vectors(out: &mut Vectors) {
         }
         let spare = random.below(4) as usize;
         tables::sample(out, 5, &s, spare, sample_groups::parse_sbgp(&s));
+    }
+}
+
+/// Answers that document 01 gives and the Rust cannot: want of records.
+pub fn document(out: &mut Vectors) {
+    let s = payload(&mut Random::new(18), 0, 3, &[(3, 1), (0, 9), (2, 1)]);
+    for numbers in [0, 1, 4, 5] {
+        out.add(5, &[numbers], &s, Answer::Refused(29));
     }
 }

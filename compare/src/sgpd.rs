@@ -104,36 +104,95 @@ fn prefixed(random: &mut Random, entries: u64) -> Vec<u8> {
     body
 }
 
-/// The two payloads of a fragment, whole or not, and each part by its mark.
+/// One lookup over two payloads, with the Rust's answers for them.
+fn compare_described(tally: &mut Tally, film: &Parsed, fragment: &Parsed, raw: u32) {
+    let split = sample_groups::split_csgp_index(raw);
+    let expected = match (&film.told, &fragment.told) {
+        (Err(e), _) | (_, Err(e)) => Answer::Refused(number(e)),
+        (Ok(_), Ok(_)) => {
+            let picked = if split.fragment_local { fragment } else { film };
+            entry(&picked.told, &picked.places, split.index).map(|[place, size]| [split.fragment_local as u64, place, size])
+        }
+    };
+    let ours = ffi::described_place(&film.input, film.len, &fragment.input, fragment.len, raw);
+    tally.same("described", ours, expected, &|| format!("{raw:08x} of {} and {}", film.shown, fragment.shown));
+}
+
+/// A payload with the Rust's answer.
+struct Parsed {
+    input: Input,
+    len: usize,
+    told: Result<SampleGroupDescription>,
+    places: Vec<[u64; 2]>,
+    shown: String,
+}
+
+impl Parsed {
+    fn new(s: &[u8]) -> Self {
+        let told = sample_groups::parse_sgpd(s);
+        let places = told.as_ref().map_or(vec![], |d| places(s, d));
+        Parsed { input: Input::new(s), len: s.len(), told, places, shown: format!("{:02x?}", &s[..s.len().min(80)]) }
+    }
+
+    /// Indices around the seams of the entries, and far ones.
+    fn indices(&self) -> [u32; 9] {
+        let count = self.places.len() as u32;
+        [0, 1, 2, count / 2, count.saturating_sub(1), count, count + 1, 0x0001_0001, 0x7fff_ffff]
+    }
+}
+
+/// Entries of a version, with a default length or a length before each.
+fn some_entries(random: &mut Random, version: u8) -> Vec<u8> {
+    let kind = random.pick(&TYPES);
+    let entries = random.below(5);
+    let default_length = random.pick(&[0, 0, 1, 2, 5]);
+    let body = if version > 0 && default_length == 0 { prefixed(random, entries) } else { random.bytes(5 * entries as usize) };
+    payload(random, version, kind, default_length, entries as u32, &body)
+}
+
+/// A fragment's payloads of 1 MiB on either side or both, whole and one byte short.
+fn long_fragments(tally: &mut Tally, random: &mut Random) {
+    for version in VERSIONS {
+        let short = some_entries(random, version);
+        let long = mebibyte(random, version, b"abcd", if version % 2 == 0 { 3 } else { 0 }).1;
+        let other = mebibyte(random, VERSIONS[version as usize % 4 + 1], b"roll", 0).1;
+        for (film, fragment) in [(&long, &short), (&short, &long), (&long, &other), (&other, &long)] {
+            for [cut, cut_fragment] in [[0, 0], [1, 0], [0, 1]] {
+                let (film, fragment) = (Parsed::new(&film[..film.len() - cut]), Parsed::new(&fragment[..fragment.len() - cut_fragment]));
+                for (payload, mark) in [(&film, 0), (&fragment, 1 << 31)] {
+                    for index in payload.indices() {
+                        compare_described(tally, &film, &fragment, index | mark);
+                    }
+                }
+                film.input.check();
+                fragment.input.check();
+            }
+        }
+    }
+}
+
+/// The two payloads of a fragment, in every pair of versions, whole or not: each part by its mark, indices at the seams and far ones.
 fn fragments(tally: &mut Tally, random: &mut Random) {
-    for _ in 0..100_000 {
-        let [film, fragment] = [0, 1].map(|_| {
-            let version = random.pick(&[0, 1, 2]);
-            let kind = random.pick(&TYPES);
-            let entries = random.below(4);
-            let body = if version == 0 { random.bytes(2 * entries as usize) } else { prefixed(random, entries) };
-            let mut s = payload(random, version, kind, 0, entries as u32, &body);
-            if random.one_in(5) {
-                s.truncate(random.below(s.len() as u64) as usize);
+    for film_version in VERSIONS {
+        for fragment_version in VERSIONS {
+            for _ in 0..1500 {
+                let [film, fragment] = [film_version, fragment_version].map(|version| {
+                    let mut s = some_entries(random, version);
+                    if random.one_in(6) {
+                        s.truncate(random.below(s.len() as u64) as usize);
+                    }
+                    Parsed::new(&s)
+                });
+                for (payload, mark) in [(&film, 0), (&fragment, 1 << 31)] {
+                    for index in payload.indices() {
+                        compare_described(tally, &film, &fragment, index | mark);
+                    }
+                }
+                compare_described(tally, &film, &fragment, random.next() as u32);
+                film.input.check();
+                fragment.input.check();
             }
-            s
-        });
-        let raw = random.below(6) as u32 | if random.one_in(2) { 1 << 31 } else { 0 };
-        let told = [sample_groups::parse_sgpd(&film), sample_groups::parse_sgpd(&fragment)];
-        let split = sample_groups::split_csgp_index(raw);
-        let (picked, bytes) = (split.fragment_local as usize, if split.fragment_local { &fragment } else { &film });
-        let expected = match &told {
-            [Err(e), _] | [_, Err(e)] => Answer::Refused(number(e)),
-            [Ok(_), Ok(_)] => {
-                let found = places(bytes, told[picked].as_ref().unwrap());
-                entry(&told[picked], &found, split.index).map(|[place, size]| [picked as u64, place, size])
-            }
-        };
-        let (a, b) = (Input::new(&film), Input::new(&fragment));
-        let ours = ffi::described_place(&a, film.len(), &b, fragment.len(), raw);
-        tally.same("described", ours, expected, &|| format!("{raw:08x} of {film:02x?} and {fragment:02x?}"));
-        a.check();
-        b.check();
+        }
     }
     for k in 0..100_000u64 {
         let raw = if k < 1000 { k as u32 } else { random.next() as u32 };
@@ -193,6 +252,50 @@ fn truncations(tally: &mut Tally, random: &mut Random, s: &[u8]) {
     }
 }
 
+/// A payload of exactly 1 MiB and its count of entries: as many as fill it, by the version's own sizes, by a default length, or (default length 0)
+/// with a length before each.
+fn mebibyte(random: &mut Random, version: u8, kind: &[u8; 4], default_length: u32) -> (u32, Vec<u8>) {
+    let size = MIB - payload(random, version, kind, 0, 0, &[]).len();
+    let (count, body) = match (version, kind) {
+        (0, b"roll" | b"prol") => (size / 2, random.bytes(size)),
+        (0, b"rap " | b"tele" | b"sap ") => (size, random.bytes(size)),
+        (0, _) => (size / 3, random.bytes(size)),
+        _ if default_length > 0 => (size / default_length as usize, random.bytes(size)),
+        _ => {
+            let (mut body, mut count) = (Vec::new(), 1);
+            while size - body.len() > 4 + 8 {
+                body.extend(prefixed(random, 1));
+                count += 1;
+            }
+            let last = size - body.len() - 4;
+            body.extend((last as u32).to_be_bytes());
+            body.extend(random.bytes(last));
+            (count, body)
+        }
+    };
+    (count as u32, payload(random, version, kind, default_length, count as u32, &body))
+}
+
+/// Every type in every version at exactly 1 MiB, whole and cut, and with an entry too many.
+fn mebibytes(tally: &mut Tally, random: &mut Random) {
+    for version in VERSIONS {
+        for kind in TYPES {
+            let forms: &[u32] = if version == 0 { &[0] } else { &[0, 3] };
+            for &default_length in forms {
+                let (count, mut s) = mebibyte(random, version, kind, default_length);
+                assert_eq!(s.len(), MIB);
+                compare(tally, random, &s);
+                compare(tally, random, &s[..MIB - 1]);
+                let at = [8, 12, 16][version.min(2) as usize];
+                s[at..at + 4].copy_from_slice(&(count + 1).to_be_bytes());
+                compare(tally, random, &s);
+                s[at..at + 4].copy_from_slice(&1000u32.to_be_bytes());
+                compare(tally, random, &s);
+            }
+        }
+    }
+}
+
 pub fn run(tally: &mut Tally) {
     let mut random = Random::new(10);
     lengths(tally, &mut random);
@@ -211,20 +314,14 @@ pub fn run(tally: &mut Tally) {
         }
         compare(tally, &mut random, &s);
     }
-    // 1 MiB, and one byte less.
-    for version in VERSIONS {
-        for default_length in [0, 3] {
-            let head = payload(&mut random, version, b"abcd", 0, 0, &[]).len();
-            let mut body = if version > 0 && default_length == 0 { prefixed(&mut random, 170_000) } else { random.bytes(MIB - head) };
-            body.resize(MIB - head, 0);
-            for count in [1000, 170_000, (MIB - head) as u32 / 3, (MIB - head) as u32 / 3 + 1] {
-                let s = payload(&mut random, version, b"abcd", default_length, count, &body);
-                compare(tally, &mut random, &s);
-                compare(tally, &mut random, &s[..MIB - 1]);
-            }
-        }
-    }
     fragments(tally, &mut random);
+}
+
+/// The part that takes long inputs.
+pub fn run_long(tally: &mut Tally) {
+    let mut random = Random::new(16);
+    mebibytes(tally, &mut random);
+    long_fragments(tally, &mut random);
 }
 
 fn random_bytes(n: usize) -> Vec<u8> {
@@ -244,6 +341,10 @@ pub fn vectors(out: &mut Vectors) {
     };
     for (count, len) in [(3, 9), (2, 3), (2, 2)] {
         add(&payload(&mut Random::new(12), 0, b"abcd", 0, count, &random_bytes(len)));
+    }
+    let whole = payload(&mut Random::new(12), 2, b"roll", 0, 2, &[0, 0, 0, 2, 255, 254, 0, 0, 0, 1, 7]);
+    for len in 11..=whole.len() {
+        add(&whole[..len]);
     }
     for _ in 0..60 {
         let version = random.pick(&VERSIONS);

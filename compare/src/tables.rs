@@ -34,18 +34,21 @@ pub fn theirs(told: &Result<SampleToGroup>) -> Answer<Table> {
     }
 }
 
-/// One payload: the table with records enough (exactly enough, some more, an odd number more), with one too few, and lookups over its rows.
-pub fn compare(
-    tally: &mut Tally,
-    random: &mut Random,
-    entry: &'static str,
-    s: &[u8],
-    ours: impl Fn(&Input, usize, usize) -> Answer<Table>,
-    reference: impl Fn(&[u8]) -> Result<SampleToGroup>,
-) {
+/// The readers of a table, by their names in the counts.
+pub struct Readers {
+    pub payloads: &'static str,
+    pub entry: &'static str,
+    pub ours: fn(&Input, usize, usize) -> Answer<Table>,
+    pub reference: fn(&[u8]) -> Result<SampleToGroup>,
+}
+
+/// One payload: its row count, the table with records enough (exactly enough, some more, an odd number more), with one too few, and lookups
+/// over its rows.
+pub fn compare(tally: &mut Tally, random: &mut Random, readers: &Readers, s: &[u8]) {
+    let Readers { entry, ours, .. } = *readers;
     let input = Input::new(s);
-    tally.input(if entry == "parse_sbgp" { "payloads of sbgp" } else { "payloads of csgp" });
-    let told = reference(s);
+    tally.input(readers.payloads);
+    let told = (readers.reference)(s);
     let expected = theirs(&told);
     let rows = told.as_ref().map_or(3, |t| t.entries.len());
     let shown = |room: usize| move || format!("{:02x?} with {room} numbers", &s[..s.len().min(80)]);

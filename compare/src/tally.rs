@@ -1,5 +1,6 @@
 //! Counts of compared calls, and the first differences.
 
+use super::ffi;
 use std::collections::BTreeMap;
 use std::fmt::Debug;
 
@@ -50,6 +51,7 @@ pub fn report(tallies: &[Tally]) -> ! {
     for (kind, n) in sums(tallies.iter().map(|tally| &tally.inputs)) {
         println!("compare: {n} {kind}");
     }
+    println!("compare: {} answers of the module for Rust", ffi::asked());
     let calls = sums(tallies.iter().map(|tally| &tally.calls));
     for (entry, n) in &calls {
         println!("compare: {entry}: {n} calls");

@@ -1,44 +1,151 @@
-//! Stored vectors: a sample of the Rust's answers as lines of hexadecimal, for the programs vectors_* (docs/VECTORS.md has the format).
+//! Stored vectors: a sample of the Rust's answers as lines of hexadecimal, for the program test_vectors (docs/VECTORS.md has the format).
 
 use super::ffi::Answer;
+use std::collections::{BTreeMap, BTreeSet};
 
-/// The longest file that a program replays.
+/// The longest file that the program replays.
 const LIMIT: usize = 65_536;
 
-/// Lines with different inputs and answers, up to the limit.
+const NONE: u8 = 255;
+
+/// Each entry with the statuses that its stored lines must have, besides 0; 55 would take an input longer than a file.
+const STATUSES: [(u8, &[u8]); 20] = [
+    (1, &[1, 2, 3, 4, 5, NONE]),
+    (2, &[1, 2, 3, 4, 5, 6, 7, NONE]),
+    (3, &[1, 2, 3, 4, 5, 8, 9, 11, NONE]),
+    (4, &[1, 2, 3, 4, 5, 8, 9, 10, 11, NONE]),
+    (5, &[20, 21, 22, 23, 29]),
+    (6, &[20, 21, 22, 24, 25, 26, 27, 28, 29]),
+    (7, &[]),
+    (8, &[]),
+    (9, &[30, 31, 32, 33, 34, 35]),
+    (10, &[30, 31, 32, 33, 34, 35, NONE]),
+    (11, &[40]),
+    (12, &[40]),
+    (13, &[40]),
+    (14, &[40]),
+    (15, &[40]),
+    (16, &[40, 41, 42, 43]),
+    (17, &[40, 41, 42, 43, NONE]),
+    (18, &[40, 44, 45]),
+    (19, &[40, 44, 45, NONE]),
+    (20, &[40, 44, 45, NONE]),
+];
+
+#[derive(Clone, PartialEq, Eq, PartialOrd, Ord)]
+struct Line {
+    entry: u8,
+    arguments: Vec<u64>,
+    input: Vec<u8>,
+    status: u8,
+    numbers: Vec<u64>,
+}
+
+impl Line {
+    fn text(&self) -> String {
+        let mut bytes = vec![self.entry, self.arguments.len() as u8];
+        bytes.extend(self.arguments.iter().flat_map(|a| a.to_be_bytes()));
+        bytes.extend((self.input.len() as u16).to_be_bytes());
+        bytes.extend(&self.input);
+        bytes.extend([self.status, self.numbers.len() as u8]);
+        bytes.extend(self.numbers.iter().flat_map(|n| n.to_be_bytes()));
+        bytes.iter().map(|b| format!("{b:02x}")).collect()
+    }
+
+    /// The same call with another answer.
+    fn told(&self, status: u8, numbers: &[u64]) -> Line {
+        Line { status, numbers: numbers.to_vec(), ..self.clone() }
+    }
+}
+
+/// Lines with different inputs and answers.
+#[derive(Default)]
 pub struct Vectors {
-    lines: Vec<String>,
-    size: usize,
+    lines: Vec<Line>,
+    seen: BTreeSet<Line>,
 }
 
 impl Vectors {
-    pub fn new() -> Self {
-        Vectors { lines: Vec::new(), size: 0 }
-    }
-
     /// One answer of the Rust for an entry, by the entry's number in docs/VECTORS.md.
     pub fn add(&mut self, entry: u8, arguments: &[u64], input: &[u8], answer: Answer<Vec<u64>>) {
         let (status, numbers) = match answer {
             Answer::Given(numbers) => (0, numbers),
-            Answer::None => (255, vec![]),
+            Answer::None => (NONE, vec![]),
             Answer::Refused(n) => (n as u8, vec![]),
         };
-        let mut bytes = vec![entry, arguments.len() as u8];
-        bytes.extend(arguments.iter().flat_map(|a| a.to_be_bytes()));
-        bytes.extend((input.len() as u16).to_be_bytes());
-        bytes.extend(input);
-        bytes.extend([status, numbers.len() as u8]);
-        bytes.extend(numbers.iter().flat_map(|n| n.to_be_bytes()));
-        let line: String = bytes.iter().map(|b| format!("{b:02x}")).collect();
-        if self.size + line.len() + 1 <= LIMIT && !self.lines.contains(&line) {
-            self.size += line.len() + 1;
+        let line = Line { entry, arguments: arguments.to_vec(), input: input.to_vec(), status, numbers };
+        if self.seen.insert(line.clone()) {
             self.lines.push(line);
         }
     }
 
-    pub fn print(&self) {
+    /// As many lines as fit into a file: the first of each entry and status, then the second of each, and so on.
+    fn chosen(&self) -> Vec<&Line> {
+        let mut ranks = BTreeMap::new();
+        let mut ranked: Vec<(usize, &Line)> = Vec::new();
         for line in &self.lines {
-            println!("{line}");
+            let rank = ranks.entry((line.entry, line.status)).or_insert(0);
+            ranked.push((*rank, line));
+            *rank += 1;
         }
+        ranked.sort_by_key(|(rank, _)| *rank);
+        let mut size = 0;
+        ranked.retain(|(_, line)| {
+            let more = line.text().len() + 1;
+            let fits = size + more <= LIMIT;
+            size += if fits { more } else { 0 };
+            fits
+        });
+        ranked.into_iter().map(|(_, line)| line).collect()
+    }
+
+    pub fn print(&self) {
+        for line in self.chosen() {
+            println!("{}", line.text());
+        }
+    }
+}
+
+/// Prints lines that a replay must find to differ, for each entry: an answer in all its parts, each of its statuses as another one, and lines that
+/// are no record of a call. Fails where the files lack a status.
+pub fn print_damaged(files: &[Vectors]) {
+    let lines: Vec<&Line> = files.iter().flat_map(Vectors::chosen).collect();
+    let mut damaged = Vec::new();
+    for (entry, statuses) in STATUSES {
+        let with = |status| lines.iter().filter(move |line| line.entry == entry && line.status == status);
+        let of = |status| *with(status).min_by_key(|line| line.input.len()).unwrap_or_else(|| panic!("no line of entry {entry} with status {status}"));
+        let value = *with(0).next().unwrap_or_else(|| panic!("no value of entry {entry}"));
+        let numbers = &value.numbers;
+        for status in [1, NONE] {
+            damaged.extend([value.told(status, numbers), value.told(status, &[])]);
+        }
+        for k in 0..numbers.len() {
+            let mut other = numbers.clone();
+            other[k] ^= 1 << if k % 2 == 0 { 0 } else { 63 };
+            damaged.push(value.told(0, &other));
+        }
+        let mut last = numbers.clone();
+        last[numbers.len() - 1] ^= 1 << 63 | 1;
+        damaged.extend([&last[..], &numbers[..numbers.len() - 1], &[&numbers[..], &[0]].concat(), &[]].map(|other| value.told(0, other)));
+        for &status in statuses {
+            let line = of(status);
+            for other in [0, status ^ 1, NONE].into_iter().filter(|&other| other != status) {
+                damaged.push(line.told(other, &[]));
+            }
+            damaged.extend([line.told(0, numbers), line.told(status, &[0])]);
+        }
+    }
+    let mut told = BTreeSet::new();
+    damaged.retain(|line| told.insert(line.clone()));
+    let mut texts: Vec<String> = damaged.iter().map(Line::text).collect();
+    // A record that is cut, has a byte more, is written in other digits, is empty, or is of no entry.
+    let first = lines[0].text();
+    let rest = &first[2..];
+    texts.extend([first[..first.len() - 2].to_string(), format!("{first}00"), first.to_uppercase(), String::new(), format!("00{rest}"), format!("ff{rest}")]);
+    let right: BTreeSet<String> = lines.iter().map(|line| line.text()).collect();
+    assert!(texts.iter().all(|text| !right.contains(text)), "a damaged line is a right one");
+    assert!(texts.iter().map(|text| text.len() + 1).sum::<usize>() <= LIMIT, "too many damaged lines");
+    for text in texts {
+        println!("{text}");
     }
 }
