@@ -4,7 +4,7 @@ use Prim.Native.Nat.{ℕ, zero, suc, _-_, _≤_, _<_}
 use native.Mathlib.Omega.{arith}
 use mathlib.Core.List.{List, [], _∷_}
 use Rattle.table_patterns.specs.Place.{bitCount, patternIn, Stands}
-use Rattle.table_csgp_head.specs.Head.{Fixed, placeAt, pairBehind, indicesBehind, patternsFrom, WholeFrom, ahead, Whole, patternsBehind, Near, pairFields}
+use Rattle.table_csgp_head.specs.Head.{Fixed, placeAt, pairBehind, indicesBehind, patternsFrom, WholeFrom, ahead, Whole, patternsBehind, Near, pairRead}
 use Rattle.table_csgp_head.specs.declared.CsgpHead.{CsgpHead}
 use Rattle.table_csgp_head.specs.declared.PatternsAt.{PatternsAt}
 
@@ -12,9 +12,9 @@ use Rattle.table_csgp_head.specs.declared.PatternsAt.{PatternsAt}
 pub record Step (s : List ℕ) (h : CsgpHead) (here : PatternsAt) : Type 0 where
   pub pair : pairBehind s (here .pair) ≤ bitCount s
   pub stands : Stands s (placeAt s (here .pair) (here .indices))
-  pub first : ahead s here ≡ patternIn s (placeAt s (here .pair) (here .indices)) ∷ ahead s (patternsBehind h here (pairFields s (here .pair) .patternLength))
-  pub whole : Whole s (patternsBehind h here (pairFields s (here .pair) .patternLength))
-  pub near : Near (patternsBehind h here (pairFields s (here .pair) .patternLength))
+  pub first : ahead s here ≡ patternIn s (placeAt s (here .pair) (here .indices)) ∷ ahead s (patternsBehind h here (pairRead s (here .pair) .patternLength))
+  pub whole : Whole s (patternsBehind h here (pairRead s (here .pair) .patternLength))
+  pub near : Near (patternsBehind h here (pairRead s (here .pair) .patternLength))
 
 -- what is whole, by how many are left
 whole-first : (n : ℕ) (s : List ℕ) (p q : ℕ) → 0 < n → WholeFrom n s p q →

@@ -9,7 +9,7 @@ use Rattle.table_front.proofs.Fronts.{front-rest}
 use Rattle.table_front.specs.declared.TableKind.the-variants.{Csgp}
 use Rattle.table_patterns.specs.Place.{bitCount, patternIn, Stands}
 use Rattle.table_csgp_head.specs.Csgp.{indexWidth, countWidth, lengthWidth, patternCount, streamPlace, indexPlace, readPairs, readPatterns, readFrom, readAll, csgp}
-use Rattle.table_csgp_head.specs.Head.{Fixed, placeAt, pairBehind, indicesBehind, patternsFrom, WholeFrom, Read, allPatterns, patternsBehind, pairFields, CsgpLaid}
+use Rattle.table_csgp_head.specs.Head.{Fixed, placeAt, pairBehind, indicesBehind, patternsFrom, WholeFrom, Read, allPatterns, patternsBehind, CsgpLaid, pairRead}
 use Rattle.table_csgp_head.specs.declared.CsgpHead.{CsgpHead}
 use Rattle.table_csgp_head.specs.declared.PatternsAt.{PatternsAt}
 use Rattle.table_csgp_head.proofs.Widths.{widths}
@@ -59,7 +59,7 @@ module _ (s : List ℕ) (h : CsgpHead) (f : Fixed s h) where
       checked-pair = omega (arith, fits, suc-mul (here .left - 1) (lengthWidth s + countWidth s))
 
       abbrev size : ℕ
-      size = pairFields s (here .pair) .patternLength
+      size = pairRead s (here .pair) .patternLength
 
       pub checked-empty : size ≡ 0 → readAll s ≡ refused 26
       checked-empty e = c .refusal (first ∙ ahead-empty s (here .left - 1) (here .pair) (here .indices) fits e)

@@ -10,7 +10,7 @@ use lib.Dec.{ltb}
 use Rattle.base_fields.specs.Answer.{given, refused, choose, andThen}
 use Rattle.table_patterns.specs.Place.{bitCount, indicesAt, patternIn}
 use Rattle.table_csgp_head.specs.Csgp.{indexWidth, countWidth, lengthWidth, Pair, readPairs, readIndices, readPatterns, readFrom}
-use Rattle.table_csgp_head.specs.Head.{placeAt, pairBehind, indicesBehind, pairFields}
+use Rattle.table_csgp_head.specs.Head.{placeAt, pairBehind, indicesBehind, pairRead}
 
 module _ (s : List ℕ) where
   -- a pair table that fits is read
@@ -22,7 +22,7 @@ module _ (s : List ℕ) where
       let a : p + lengthWidth s ≤ bitCount s = omega arith in
       let b : pairBehind s p ≤ bitCount s = omega arith in
       let ih = pairs-fit n (pairBehind s p) (omega arith) in
-      (pairFields s p ∷ ih .0, simp (le-ltb _ _ a, le-ltb _ _ b, ih .1))
+      (pairRead s p ∷ ih .0, simp (le-ltb _ _ a, le-ltb _ _ b, ih .1))
 
   -- one that does not ends in a pair that is cut in its length or in its count
   pub pairs-cut : (n p : ℕ) → 0 < lengthWidth s → p ≤ bitCount s → bitCount s < p + n * (lengthWidth s + countWidth s) →
@@ -79,7 +79,7 @@ module _ (s : List ℕ) (n p q : ℕ) (fits : p + suc n * (lengthWidth s + count
   others : (rs : List Pair) × (readPairs n s (pairBehind s p) ≡ given rs)
   others = pairs-fit s n (pairBehind s p) (omega (arith, suc-mul n (lengthWidth s + countWidth s)))
 
-  first-of : readFrom (suc n) s p q ≡ readPatterns (pairFields s p ∷ others .0) s q
+  first-of : readFrom (suc n) s p q ≡ readPatterns (pairRead s p ∷ others .0) s q
   unfolding readPairs
   first-of =
       let m = suc-mul n (lengthWidth s + countWidth s) in
@@ -87,15 +87,15 @@ module _ (s : List ℕ) (n p q : ℕ) (fits : p + suc n * (lengthWidth s + count
       let b : pairBehind s p ≤ bitCount s = omega arith in
       simp (le-ltb _ _ a, le-ltb _ _ b, others .1)
 
-  pub ahead-empty : pairFields s p .patternLength ≡ 0 → readFrom (suc n) s p q ≡ refused 26
+  pub ahead-empty : pairRead s p .patternLength ≡ 0 → readFrom (suc n) s p q ≡ refused 26
   unfolding readPatterns
   ahead-empty e = first-of ∙ simp (eq-eqb _ _ e)
 
-  pub ahead-cut : (pairFields s p .patternLength ≡ 0 → ⊥) → bitCount s < indicesBehind s p q → readFrom (suc n) s p q ≡ refused 27
+  pub ahead-cut : (pairRead s p .patternLength ≡ 0 → ⊥) → bitCount s < indicesBehind s p q → readFrom (suc n) s p q ≡ refused 27
   unfolding readPatterns
-  ahead-cut e h = first-of ∙ simp (ne-eqb _ _ e, indices-cut s (pairFields s p .patternLength) q (λ z. absurd (e z)) h)
+  ahead-cut e h = first-of ∙ simp (ne-eqb _ _ e, indices-cut s (pairRead s p .patternLength) q (λ z. absurd (e z)) h)
 
-  pub ahead-more : (pairFields s p .patternLength ≡ 0 → ⊥) → indicesBehind s p q ≤ bitCount s →
+  pub ahead-more : (pairRead s p .patternLength ≡ 0 → ⊥) → indicesBehind s p q ≤ bitCount s →
       readFrom (suc n) s p q ≡ andThen (readFrom n s (pairBehind s p) (indicesBehind s p q)) (λ rest. given (patternIn s (placeAt s p q) ∷ rest))
   unfolding readPatterns
-  ahead-more e h = first-of ∙ simp (ne-eqb _ _ e, indices-fit s (pairFields s p .patternLength) q h, others .1)
+  ahead-more e h = first-of ∙ simp (ne-eqb _ _ e, indices-fit s (pairRead s p .patternLength) q h, others .1)

@@ -44,22 +44,22 @@ GivesPairs s check.Passed = indexPlace s ≤ bitCount s
 GivesPairs s (check.Refused n) = readPairs (patternCount s) s (streamPlace s) ≡ refused n
 
 -- the pair at bit place p
-abbrev pub pairFields : List ℕ → ℕ → Pair
-pairFields s p = record { patternLength = bitsAt (lengthWidth s) s p; sampleCount = bitsAt (countWidth s) s (p + lengthWidth s) }
+abbrev pub pairRead : List ℕ → ℕ → Pair
+pairRead s p = record { patternLength = bitsAt (lengthWidth s) s p; sampleCount = bitsAt (countWidth s) s (p + lengthWidth s) }
 
 -- the same as the code's struct
 abbrev pub pairOf : List ℕ → ℕ → PatternPair
-pairOf s p = record { length = pairFields s p .patternLength; count = pairFields s p .sampleCount }
+pairOf s p = record { length = pairRead s p .patternLength; count = pairRead s p .sampleCount }
 
 -- the pattern whose pair stands at p and whose indices stand at q, and the places of the next one
 abbrev pub placeAt : List ℕ → ℕ → ℕ → PatternAt
-placeAt s p q = record { length = pairFields s p .patternLength; count = pairFields s p .sampleCount; width = indexWidth s; indices = q }
+placeAt s p q = record { length = pairRead s p .patternLength; count = pairRead s p .sampleCount; width = indexWidth s; indices = q }
 
 abbrev pub pairBehind : List ℕ → ℕ → ℕ
 pairBehind s p = p + lengthWidth s + countWidth s
 
 abbrev pub indicesBehind : List ℕ → ℕ → ℕ → ℕ
-indicesBehind s p q = q + indexWidth s * pairFields s p .patternLength
+indicesBehind s p q = q + indexWidth s * pairRead s p .patternLength
 
 -- n patterns: their pairs from bit place p on, their indices from bit place q on
 unfoldable pub patternsFrom : ℕ → List ℕ → ℕ → ℕ → List Pattern

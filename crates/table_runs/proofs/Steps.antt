@@ -47,7 +47,7 @@ module _ (s : List ℕ) (here : PatternsAt) (some : here .left ≡ 0 → ⊥) wh
       }
 
   pub pattern-step : (h : CsgpHead) → WholeIn s (table.Patterns h) here →
-      Step s (table.Patterns h) here (patterns.placeAt s (here .pair) (here .indices)) (patterns.patternsBehind h here (patterns.pairFields s (here .pair) .patternLength))
+      Step s (table.Patterns h) here (patterns.placeAt s (here .pair) (here .indices)) (patterns.patternsBehind h here (patterns.pairRead s (here .pair) .patternLength))
   pattern-step h w =
       let p = ahead-step s here h (w .0) (omega arith) (w .1) in
       record { stands = p .stands; first = p .first; whole = (w .0, p .whole); fewer = omega arith }
