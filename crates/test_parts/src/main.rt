@@ -73,7 +73,10 @@ fn main() {
     );
     let short = b"\x00\x00\x00\x00abcd\x00\x00\x00";
     let cut = b"\x02\x00\x00\x00abcd\x00\x00\x00\x00";
-    tell(b"the film's refusal first", refusal(short, cut, 1) == 30);
+    tell(
+        b"the film's refusal first",
+        refusal(short, cut, 0x8000_0001) == 30,
+    );
     tell(
         b"no entry",
         group_sgpd::entry(film, DescriptionIndex(4)).len() == 0,
