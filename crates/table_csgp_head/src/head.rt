@@ -4,7 +4,7 @@ use super::CsgpHead;
 use super::ReadCsgp;
 use super::first_pattern;
 use super::patterns_behind;
-use super::walk::pair_at;
+use super::walk::length_at;
 use base_fields::read_u8;
 use table_front::ReadFront;
 use table_front::TableFront;
@@ -85,14 +85,14 @@ fn check_patterns(s: &[u8], head: CsgpHead) -> Check
     let bits = 8 * s.len();
     let mut here = first_pattern(head);
     while 0 < here.left {
-        let pair = pair_at(s, head, here.pair);
-        if pair.length == 0 {
+        let length = length_at(s, head, here.pair);
+        if length == 0 {
             return Check::Refused(26);
         }
-        if bits - here.indices < (head.index_width as usize) * (pair.length as usize) {
+        if bits - here.indices < (head.index_width as usize) * (length as usize) {
             return Check::Refused(27);
         }
-        here = patterns_behind(head, here, pair.length);
+        here = patterns_behind(head, here, length);
     }
     Check::Passed
 }

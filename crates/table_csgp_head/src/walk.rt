@@ -7,7 +7,7 @@ use table_patterns::PatternAt;
 ghost use mathlib.Core.Path.{_≡_};
 ghost use Prim.Native.Nat.{_≤_, _<_};
 ghost use Rattle.table_patterns.specs.Place.{bitCount};
-ghost use Rattle.table_csgp_head.specs.Head.{Fixed, pairOf, pairBehind, placeAt, allPatterns, patternsBehind, Near};
+ghost use Rattle.table_csgp_head.specs.Head.{Fixed, pairRead, pairOf, pairBehind, placeAt, allPatterns, patternsBehind, Near};
 
 // All patterns of a payload.
 pub fn first_pattern(head: CsgpHead) -> PatternsAt
@@ -20,13 +20,21 @@ pub fn first_pattern(head: CsgpHead) -> PatternsAt
     }
 }
 
+// The length of the pattern whose pair stands at a bit place.
+pub(crate) fn length_at(s: &[u8], head: CsgpHead, at: usize) -> u32
+    requires { ⌜ (Fixed (now s) head) × (pairBehind (now s) at ≤ bitCount (now s)) ⌝ }
+    ensures { λ r. ⌜ r ≡ pairRead (now (s .entry)) at .patternLength ⌝ }
+{
+    read_bits(s, at, head.length_width)
+}
+
 // The length and the count of the pattern whose pair stands at a bit place.
 pub(crate) fn pair_at(s: &[u8], head: CsgpHead, at: usize) -> PatternPair
     requires { ⌜ (Fixed (now s) head) × (pairBehind (now s) at ≤ bitCount (now s)) ⌝ }
     ensures { λ r. ⌜ r ≡ pairOf (now (s .entry)) at ⌝ }
 {
     PatternPair {
-        length: read_bits(s, at, head.length_width),
+        length: length_at(s, head, at),
         count: read_bits(s, at + head.length_width as usize, head.count_width),
     }
 }

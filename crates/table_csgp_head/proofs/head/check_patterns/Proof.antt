@@ -3,7 +3,6 @@ use mathlib.Core.Path.{_≡_, ap, sym, _∙_}
 use Prim.Native.Nat.{_≤_, _-_}
 use native.Mathlib.Omega.{arith}
 use borrow.Author.Needs.{needs}
-use Rattle.table_csgp_head.specs.declared.PatternPair.{PatternPair}
 use Rattle.table_csgp_head.specs.declared.PatternsAt.{PatternsAt}
 use Rattle.table_csgp_head.proofs.Checked.{Checked, checked-all, checked-end, checked-pair, checked-empty, checked-cut, checked-next}
 use Rattle.table_csgp_head.proofs.Widths.{widths, fields-small}
@@ -25,8 +24,8 @@ first-pattern-requires c κs = search needs
 loop-holds : tie.Need-loop-holds Inv-loop μ-loop
 loop-holds c = rw (c .first-pattern .ensures) (checked-all _ _ (c .before .before .pre .0) (c .before .before .pre .1))
 
-pair-at-requires : tie.Need-pair-at-requires Inv-loop μ-loop
-pair-at-requires c κs =
+length-at-requires : tie.Need-length-at-requires Inv-loop μ-loop
+length-at-requires c κs =
     let test = c in
     let at-loop = test .before .before in
     let start = at-loop .before .before .before in
@@ -36,12 +35,12 @@ pair-at-requires c κs =
 
 returns : tie.Need-returns Inv-loop μ-loop
 returns c =
-    let test = c .before .before .before in
+    let test = c .before .before in
     let at-loop = test .before .before in
     let start = at-loop .before .before .before in
     let here = at-loop .loop .here in
     let f = start .pre .0 in
-    let size = ap (λ (x : PatternPair). x .length) (c .before .before .pair-at .ensures) in
+    let size = c .before .length-at .ensures in
     checked-empty _ _ f here (at-loop .loop .inv) (test .if1 .taken) (sym size ∙ c .if2 .taken)
 
 sub-if3 : tie.Need-sub-if3 Inv-loop μ-loop
@@ -55,29 +54,29 @@ cast-if3-2 c = search needs
 
 mul-if3 : tie.Need-mul-if3 Inv-loop μ-loop
 mul-if3 c =
-    let test = c .before .before .before .before .before .before in
+    let test = c .before .before .before .before in
     let at-loop = test .before .before in
     let start = at-loop .before .before .before in
     let here = at-loop .loop .here in
     let f = start .pre .0 in
     let w = widths (start .args .s .now) in
     let h : start .args .head .«index_width» ≤ 64 = omega (arith, w .index, f .indexBits) in
-    omega (arith, fields-small (c .before .before .before .before .before .pair-at .result .length) (start .args .head .«index_width») (omega arith) h)
+    omega (arith, fields-small (c .before .before .before .length-at .result) (start .args .head .«index_width») (omega arith) h)
 
 returns-2 : tie.Need-returns-2 Inv-loop μ-loop
 returns-2 c =
-    let test = c .before .before .before .before .before .before .before in
+    let test = c .before .before .before .before .before in
     let at-loop = test .before .before in
     let start = at-loop .before .before .before in
     let here = at-loop .loop .here in
     let f = start .pre .0 in
-    let size = ap (λ (x : PatternPair). x .length) (c .before .before .before .before .before .before .pair-at .ensures) in
+    let size = c .before .before .before .before .length-at .ensures in
     let h = rw (f .indexBits, size) at (c .if3 .taken) in
-    checked-cut _ _ f here (at-loop .loop .inv) (test .if1 .taken) (λ z. c .before .before .before .before .if2 .left (size ∙ z)) (omega arith)
+    checked-cut _ _ f here (at-loop .loop .inv) (test .if1 .taken) (λ z. c .before .before .before .if2 .left (size ∙ z)) (omega arith)
 
 patterns-behind-requires : tie.Need-patterns-behind-requires Inv-loop μ-loop
 patterns-behind-requires c κs =
-    let test = c .before .before .before .before .before .before .before in
+    let test = c .before .before .before .before .before in
     let at-loop = test .before .before in
     let start = at-loop .before .before .before in
     let here = at-loop .loop .here in
@@ -88,7 +87,7 @@ patterns-behind-requires c κs =
 
 loop-less : tie.Need-loop-less Inv-loop μ-loop
 loop-less c =
-    let test = c .before .before .before .before .before .before .before .before in
+    let test = c .before .before .before .before .before .before in
     let at-loop = test .before .before in
     let start = at-loop .before .before .before in
     let here = at-loop .loop .here in
@@ -98,15 +97,15 @@ loop-less c =
 
 loop-again : tie.Need-loop-again Inv-loop μ-loop
 loop-again c =
-    let test = c .before .before .before .before .before .before .before .before in
+    let test = c .before .before .before .before .before .before in
     let at-loop = test .before .before in
     let start = at-loop .before .before .before in
     let here = at-loop .loop .here in
     let f = start .pre .0 in
-    let size = ap (λ (x : PatternPair). x .length) (c .before .before .before .before .before .before .before .pair-at .ensures) in
+    let size = c .before .before .before .before .before .length-at .ensures in
     let h = rw (f .indexBits, size) at (c .before .if3 .left) in
     rw (c .patterns-behind .ensures, size)
-    (checked-next _ _ f here (at-loop .loop .inv) (test .if1 .taken) (λ z. c .before .before .before .before .before .if2 .left (size ∙ z)) (omega arith))
+    (checked-next _ _ f here (at-loop .loop .inv) (test .if1 .taken) (λ z. c .before .before .before .before .if2 .left (size ∙ z)) (omega arith))
 
 returns-3 : tie.Need-returns-3 Inv-loop μ-loop
 returns-3 c =
@@ -126,7 +125,7 @@ check-patterns-spec =
     mul-bits
     first-pattern-requires
     loop-holds
-    pair-at-requires
+    length-at-requires
     returns
     sub-if3
     cast-if3
