@@ -1,3 +1,4 @@
 pub mod Cases
 pub mod Enums
 pub mod Headers
+pub mod Numbered

@@ -1,3 +1,5 @@
 pub mod Answers
 pub mod Bytes
 pub mod Bits
+pub mod Numbered
+pub mod Firm

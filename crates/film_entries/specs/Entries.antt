@@ -29,3 +29,7 @@ alstNumbers v = v .rollCount ∷ v .firstOutput ∷ v .pairs ∷ []
 
 abbrev pub pairNumbers : OutputPair → List ℕ
 pairNumbers p = p .output ∷ p .total ∷ []
+
+-- 1 for the same value, 0 for another
+abbrev pub alikeNumbers : Bool → List ℕ
+alikeNumbers b = bit b ∷ []

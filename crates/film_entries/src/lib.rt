@@ -13,7 +13,9 @@ use group_alike::Alike;
 pub use number::film_alst_piece;
 pub use number::film_alst_sample_offset;
 pub use number::film_rash_operation_point;
-ghost use Rattle.film_entries.specs.Likens.{Likens};
+ghost use Rattle.group_alike.specs.Alike.{alike};
+ghost use Rattle.film_status.specs.Status.{Returns};
+ghost use Rattle.film_entries.specs.Entries.{alikeNumbers};
 
 // out: 1 where two entries of one grouping type decode to the same value, else 0.
 #[no_mangle]
@@ -23,7 +25,7 @@ pub extern "C" fn film_decode_alike(
     b: &[u8],
     out: &mut [u64; 1],
 ) -> u32
-    ensures { λ r. ⌜ Likens «grouping_type» (now (a .entry)) (now (b .entry)) (now (out .entry)) (now (out .exit)) r ⌝ }
+    ensures { λ r. ⌜ Returns (alike «grouping_type» (now (a .entry)) (now (b .entry))) alikeNumbers (now (out .entry)) (now (out .exit)) r ⌝ }
 {
     let read = group_alike::decode_alike(grouping_type, a, b);
     match read {

@@ -13,7 +13,7 @@ ghost use lib.ListN.{length};
 ghost use Rattle.base_fields.specs.Answer.{given, andThen, inputLimit};
 ghost use Rattle.group_alike.specs.Front.{significantOf, GivesSameFront, frontSize, toldFrontSize};
 ghost use Rattle.group_entries.specs.Layout.{decodeAs};
-ghost use Rattle.group_alike.specs.Alike.{GivesAlike};
+ghost use Rattle.group_alike.specs.Alike.{toldAlike, alike};
 
 pub enum Alike {
     Same,
@@ -22,7 +22,7 @@ pub enum Alike {
 }
 
 // How many bytes at the front of an entry decide its value, or the decoder's refusal.
-enum Front {
+pub enum Front {
     Bytes(usize),
     Refused(u32),
 }
@@ -42,7 +42,8 @@ fn significant(layout: EntryLayout, byte: u8) -> u8
     }
 }
 
-fn front_of(layout: EntryLayout, s: &[u8]) -> Front
+// The front of an entry by its layout's decoder.
+pub fn front_of(layout: EntryLayout, s: &[u8]) -> Front
     requires { ⌜ length (now s) ≤ inputLimit ⌝ }
     ensures { λ r. ⌜ toldFrontSize r ≡ andThen (decodeAs layout (now (s .entry))) (λ v. given (frontSize layout (now (s .entry)))) ⌝ }
 {
@@ -93,7 +94,7 @@ fn same_front(layout: EntryLayout, a: &[u8], b: &[u8], n: usize) -> bool
 }
 
 pub fn decode_alike(grouping_type: u32, a: &[u8], b: &[u8]) -> Alike
-    ensures { λ r. ⌜ GivesAlike «grouping_type» (now (a .entry)) (now (b .entry)) r ⌝ }
+    ensures { λ r. ⌜ toldAlike r ≡ alike «grouping_type» (now (a .entry)) (now (b .entry)) ⌝ }
 {
     if INPUT_LIMIT < a.len() {
         return Alike::Refused(55);

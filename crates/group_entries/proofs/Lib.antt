@@ -1,3 +1,5 @@
 pub mod Front
 pub mod Extent
 pub mod Values
+pub mod Same
+pub mod Numbered

@@ -1,3 +1,4 @@
 pub mod Decoded
 pub mod Layout
 pub mod Told
+pub mod Same

@@ -1,3 +1,5 @@
 pub mod Ahead
 pub mod Parse
 pub mod Lookup
+pub mod Rooms
+pub mod Numbered

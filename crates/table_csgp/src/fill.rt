@@ -20,7 +20,7 @@ use table_replay::step::replay_step;
 
 // Writes the rows from the front, where there are records enough. A run that joins the last row writes it anew; the rows of periods that
 // are passed are copied.
-pub(crate) fn fill(s: &[u8], head: CsgpHead, rows: &mut [RowNumber])
+pub fn fill(s: &[u8], head: CsgpHead, rows: &mut [RowNumber])
     requires { ⌜ (CsgpLaid (now s) head) × ((out : List Row) × (rowsFor (now s) (recordsIn (now rows)) ≡ given out)) ⌝ }
     ensures { λ r. ⌜ now (rows .exit) ≡ filled reverse (rowsFor (now (s .entry)) (recordsIn (now (rows .entry)))) (now (rows .entry)) ⌝ }
 {

@@ -1,6 +1,6 @@
 // The compact sample-to-group atom csgp (document 01, part 4).
-mod fill;
-mod measure;
+pub mod fill;
+pub mod measure;
 
 ghost use Rattle.table_rows.specs.Row.{recordsIn};
 ghost use Rattle.table_rows.specs.Found.{GivesTable};

@@ -20,7 +20,7 @@ pub enum Measured {
 }
 
 // How many rows the samples fill, or the refusal of the first sample that cannot be entered.
-pub(crate) fn measure(s: &[u8], head: CsgpHead, room: usize) -> Measured
+pub fn measure(s: &[u8], head: CsgpHead, room: usize) -> Measured
     requires { ⌜ CsgpLaid (now s) head ⌝ }
     ensures { λ r. ⌜ toldMeasured r ≡ andThen (rowsFor (now (s .entry)) room) (λ rows. given (length rows)) ⌝ }
 {

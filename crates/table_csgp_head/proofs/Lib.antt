@@ -2,3 +2,4 @@ pub mod Widths
 pub mod Reading
 pub mod Checked
 pub mod Ahead
+pub mod Numbered

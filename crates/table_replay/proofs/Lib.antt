@@ -5,3 +5,5 @@ pub mod Replay
 pub mod Repeating
 pub mod Stepping
 pub mod Within
+pub mod Rooms
+pub mod Numbered

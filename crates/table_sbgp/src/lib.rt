@@ -50,7 +50,7 @@ pub fn read_sbgp(s: &[u8]) -> ReadSbgp
 }
 
 // Writes the rows from place `first` of the payload in front of the lent run.
-fn fill(s: &[u8], first: usize, count: usize, rows: &mut [RowNumber])
+pub fn fill(s: &[u8], first: usize, count: usize, rows: &mut [RowNumber])
     requires { ⌜ (first + 8 * count ≤ length (now s)) × (2 * count ≤ length (now rows)) ⌝ }
     ensures { λ _. ⌜ now (rows .exit) ≡ flat (readRows count (now (s .entry)) first) ++ drop (2 * count) (now (rows .entry)) ⌝ }
 {

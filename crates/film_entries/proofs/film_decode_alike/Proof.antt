@@ -1,7 +1,6 @@
 -- Each arm returns the status and stores the numbers of the variant that it matched: the law `returned`.
-use mathlib.Core.Path.{refl}
+use Rattle.group_alike.specs.Alike.{toldAlike}
 use Rattle.film_status.proofs.Returned.{returned}
-use Rattle.film_entries.specs.Likens.{likeness}
 use borrow.Author.Needs.{needs}
 use Rattle.film_entries.proofs.film_decode_alike.Statement.{statement}
 use Rattle.film_entries.proofs.film_decode_alike.Tie as tie
@@ -25,13 +24,13 @@ enum-known-read : tie.Need-enum-known-read
 enum-known-read c = search needs
 
 returns : tie.Need-returns
-returns c = record { told = c .before .before .decode-alike .result; alike = c .before .before .decode-alike .ensures; returned = returned likeness refl (c .enum-told .given .1) }
+returns c = returned toldAlike (c .before .before .decode-alike .ensures) (c .enum-told .given .1)
 
 returns-2 : tie.Need-returns-2
-returns-2 c = record { told = c .before .before .decode-alike .result; alike = c .before .before .decode-alike .ensures; returned = returned likeness refl (c .enum-told2 .given .1) }
+returns-2 c = returned toldAlike (c .before .before .decode-alike .ensures) (c .enum-told2 .given .1)
 
 returns-3 : tie.Need-returns-3
-returns-3 c = record { told = c .before .before .before .decode-alike .result; alike = c .before .before .before .decode-alike .ensures; returned = returned likeness refl (c .before .read .given .1) }
+returns-3 c = returned toldAlike (c .before .before .before .decode-alike .ensures) (c .before .read .given .1)
 
 pub film-decode-alike-spec : {M : Type 1} → statement M
 film-decode-alike-spec =

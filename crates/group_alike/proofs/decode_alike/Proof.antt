@@ -1,11 +1,11 @@
 -- The fronts of both entries under the layout of their type; each answer is then a law of Pairs.antt.
 use mathlib.Core.Path.{_≡_, ap, sym, _∙_}
+use mathlib.Core.Bool.{true, false}
 use Prim.Native.Nat.{ℕ, _≤_}
 use lib.ListN.{length}
 use Rattle.base_fields.specs.Answer.{given}
 use Rattle.base_fields.proofs.Bits.{Bytes}
-use Rattle.group_alike.specs.Alike.{GivesAlike}
-use Rattle.group_alike.specs.declared.Alike.the-variants.{Same, Different}
+use Rattle.group_alike.specs.Alike.{alike}
 use Rattle.group_entries.specs.declared.EntryLayout.{EntryLayout}
 use Rattle.group_alike.specs.Front.{Agree, toldFrontSize}
 use Rattle.group_entries.specs.Layout.{layoutOf}
@@ -61,10 +61,10 @@ module _ (c : tie.After-k2) where
   bytes-b : Bytes (start .args .b .now)
   bytes-b k = untold .before .before .shared-slice-known2 .given k .fits
 
-  same : m ≡ n → Agree l (start .args .a .now) (start .args .b .now) n → GivesAlike (start .args .grouping-type) (start .args .a .now) (start .args .b .now) Same
+  same : m ≡ n → Agree l (start .args .a .now) (start .args .b .now) n → given true ≡ alike (start .args .grouping-type) (start .args .a .now) (start .args .b .now)
   same e o = are-same _ _ _ (untold .before .if1 .left) (untold .if2 .left) front-a front-b bytes-a bytes-b e o
 
-  different : (m ≡ n → Agree l (start .args .a .now) (start .args .b .now) n → ⊥) → GivesAlike (start .args .grouping-type) (start .args .a .now) (start .args .b .now) Different
+  different : (m ≡ n → Agree l (start .args .a .now) (start .args .b .now) n → ⊥) → given false ≡ alike (start .args .grouping-type) (start .args .a .now) (start .args .b .now)
   different h = are-different _ _ _ (untold .before .if1 .left) (untold .if2 .left) front-a front-b bytes-a bytes-b h
 
 returns : tie.Need-returns
