@@ -13,6 +13,7 @@ use types.Kit.{Given, Item, ‵, raw, mean, _⊛_, some, later, Post, Goal, Soak
 use types.Run.{Opds}
 use denote.RattleType.{RattleType}
 use denote.Laws.{Is, Tells, shows}
+use denote.Lowered.{Lowered}
 use denote.Steps.{heard, facts, only}
 use denote.Triple.Statement.{Contract, Triple}
 use denote.Triple.Call.{calls-at, calls-at-last}
@@ -45,6 +46,19 @@ module _ {M : Type 1} {𝓤 : URA M} {H : Heap 𝓤} {A : Atoms 𝓤} {K : Type 
         → ((v : Val) → ent 𝓤 (c .post x v) (Left 𝓤 H A R tok (h .said) v)) → Opds K W (raw (c .pre x) ∷ Γ) E xs (c .args x)
         → ((v : Val) (r : R .Denot) → φ r → Is R r (v ∷ []) → Seq K W (tok ∷ Γ) (settles E d v q)) → Seq K W (raw (c .pre x) ∷ Γ) (runs C Λ E (call f xs d) q)
     calls-hear-last t fm c met x R tok h is os k = calls-at-last t fm c met x os (λ v. use1 W (raw (Left 𝓤 H A R tok (h .said) v)) (is v) $ hears t tt R tok h v (k v))
+
+-- a value that stands at some machine values stands at its own
+pub at-own : (R : RattleType) (low : Lowered R) (r : R .Denot) (vs : List Val) → Is R r vs → Is R r (low .lowered r ∷ [])
+at-own R low r vs is = subst (Is R r) (low .val-is r vs is) is
+
+module _ {M : Type 1} {𝓤 : URA M} {H : Heap 𝓤} {A : Atoms 𝓤} {K : Type 0} {W : Given 𝓤 H A} {Γ : List (Item 𝓤)} {E : Env 𝓤 H} {C : Calls 𝓤 H} {f : Name} {xs : List Operand} {Λ : Loops 𝓤 H} {q : Post 𝓤 H} {d : Place} where
+  -- a call whose contract says a fact of the result, which stands at its own machine value
+  pub calls-tell : K → FmC 𝓤 H (W .laws) C → {rest : Body} (c : Contract 𝓤) → Triple 𝓤 (C f) c → (x : c .Ghost) (R : RattleType) (low : Lowered R) (tok : Item 𝓤) {φ : R .Denot → Type 0} (h : Heard 𝓤 R φ)
+      → ((v : Val) → ent 𝓤 (c .post x v) (Left 𝓤 H A R tok (h .said) v)) → Opds K W (raw (c .pre x) ∷ Γ) E xs (c .args x)
+      → ((r : R .Denot) → φ r → Is R r (low .lowered r ∷ []) → Seq K W (tok ∷ Γ) (lands C Λ E d (low .lowered r) rest q)) → Seq K W (raw (c .pre x) ∷ Γ) (runs C Λ E (seq (call f xs d) rest) q)
+  calls-tell t fm {rest} c met x R low tok h is os k =
+      calls-hear t fm c met x R tok h is os (λ v r e owes.
+      subst (λ (u : Val). Seq K W (tok ∷ Γ) (lands C Λ E d u rest q)) (sym (ap only (low .val-is r (v ∷ []) owes))) (k r e (at-own R low r (v ∷ []) owes)))
 
 -- a result that is known to be y, at y's own machine value w
 pub record Known (R : RattleType) (y : R .Denot) (w : Val) : Type 1 where

@@ -59,23 +59,30 @@ given-all m a b e =
           ]
     ]
 
-module _ (l : List ℕ) (rows : List SampleToGroupEntry) where
-  -- the first k records stand in front
-  abbrev pub upTo : ℕ → List SampleToGroupEntry
-  upTo k = take k (structsOf l) ++ drop k rows
+-- the first k of some records stand in front of rows
+module _ (es rows : List SampleToGroupEntry) where
+  abbrev pub firstOf : ℕ → List SampleToGroupEntry
+  firstOf k = take k es ++ drop k rows
 
-  pub upTo-length : (k : ℕ) → k ≤ recordsIn l → k ≤ length rows → length (upTo k) ≡ length rows
-  upTo-length k g h =
-      let b : k ≤ length (structsOf l) = omega (arith, entries-length l) in
-      simp (length-append, length-take-le k (structsOf l) b, length-drop) (omega arith)
+  pub firstOf-length : (k : ℕ) → k ≤ length es → k ≤ length rows → length (firstOf k) ≡ length rows
+  firstOf-length k g h = simp (length-append, length-take-le k es g, length-drop) (omega arith)
 
-  pub upTo-next : (k : ℕ) → k < recordsIn l → k < length rows → set (upTo k) k (getD (structsOf l) k noRow) ≡ upTo (k + 1)
-  upTo-next k g h =
-      let es = structsOf l in
-      let b : k < length es = omega (arith, entries-length l) in
+  pub firstOf-next : (k : ℕ) → k < length es → k < length rows → set (firstOf k) k (getD es k noRow) ≡ firstOf (k + 1)
+  firstOf-next k g h =
       let e = getD es k noRow in
       let put : set (take k es ++ getD rows k noRow ∷ drop (suc k) rows) k e ≡ take k es ++ e ∷ drop (suc k) rows = set-at (take k es) (getD rows k noRow) (drop (suc k) rows) e k (length-take-le k es (omega arith)) in
-      rw (drop-cons rows k noRow h, put, add-one, take-suc es k noRow b) (sym (append-assoc (take k es) (e ∷ []) (drop (suc k) rows)))
+      rw (drop-cons rows k noRow h, put, add-one, take-suc es k noRow g) (sym (append-assoc (take k es) (e ∷ []) (drop (suc k) rows)))
+
+module _ (l : List ℕ) (rows : List SampleToGroupEntry) where
+  -- the first k records of a run of numbers
+  abbrev pub upTo : ℕ → List SampleToGroupEntry
+  upTo k = firstOf (structsOf l) rows k
+
+  pub upTo-length : (k : ℕ) → k ≤ recordsIn l → k ≤ length rows → length (upTo k) ≡ length rows
+  upTo-length k g h = firstOf-length (structsOf l) rows k (omega (arith, entries-length l)) h
+
+  pub upTo-next : (k : ℕ) → k < recordsIn l → k < length rows → set (upTo k) k (getD (structsOf l) k noRow) ≡ upTo (k + 1)
+  upTo-next k g h = firstOf-next (structsOf l) rows k (omega (arith, entries-length l)) h
 
   module _ (r : Written) (e : toldWritten r ≡ copyInto l rows) where
     pub accepted-within : (acceptedIn r ≤ recordsIn l) × (acceptedIn r ≤ length rows)
