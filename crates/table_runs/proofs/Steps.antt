@@ -24,7 +24,7 @@ row-pattern : (s : List ℕ) (p : ℕ) → Bytes s → patternIn s (rowPlace s p
 unfolding indicesAt
 row-pattern s p b = rw (bytes-as-bits 4 s (p + 4) b) refl
 
-rows-first : (n : ℕ) (s : List ℕ) (p : ℕ) → 0 < n → readRows n s p ≡ record { count = beAt 4 s p; index = beAt 4 s (p + 4) } ∷ readRows (n - 1) s (p + 8)
+pub rows-first : (n : ℕ) (s : List ℕ) (p : ℕ) → 0 < n → readRows n s p ≡ record { count = beAt 4 s p; index = beAt 4 s (p + 4) } ∷ readRows (n - 1) s (p + 8)
 unfolding readRows
 rows-first zero s p h = absurd (omega arith)
 rows-first (suc n) s p h = let e : suc n - 1 ≡ n = omega arith in rw e refl
@@ -54,7 +54,7 @@ module _ (s : List ℕ) (here : PatternsAt) (some : here .left ≡ 0 → ⊥) wh
 
 module _ (s : List ℕ) where
   pub held-rows : (h : SbgpHead) → rows.SbgpLaid s h → Held Sbgp s (table.Rows h)
-  held-rows h l = record { patterns = rw (l .table) refl; whole = (l .inside, l .short); laid = l }
+  held-rows h l = record { kind = tt; patterns = rw (l .table) refl; whole = (l .inside, l .short); laid = l }
 
   pub held-patterns : (h : CsgpHead) → patterns.CsgpLaid s h → Held Csgp s (table.Patterns h)
-  held-patterns h l = record { patterns = l .patterns; whole = (l .fixed, l .whole); laid = l }
+  held-patterns h l = record { kind = tt; patterns = l .patterns; whole = (l .fixed, l .whole); laid = l }

@@ -6,6 +6,7 @@ use lib.ListN.{length}
 use Rattle.base_fields.specs.Answer.{given, refused, inputLimit}
 use Rattle.base_fields.specs.Number.{beAt}
 use Rattle.table_front.specs.declared.TableKind.{TableKind}
+use Rattle.table_front.specs.declared.TableKind.the-variants.{Sbgp, Csgp}
 use Rattle.table_rows.specs.Pattern.{Pattern, single}
 use Rattle.table_patterns.specs.Place.{patternIn, Stands}
 use Rattle.table_patterns.specs.declared.PatternAt.{PatternAt}
@@ -44,9 +45,17 @@ abbrev pub LaidIn : List ℕ → SampleTable → Type 0
 LaidIn s (table.Rows h) = rows.SbgpLaid s h
 LaidIn s (table.Patterns h) = patterns.CsgpLaid s h
 
+-- rows are an sbgp's, patterns a csgp's
+abbrev pub OfKind : TableKind → SampleTable → Type 0
+OfKind Sbgp (table.Rows h) = Unit
+OfKind Sbgp (table.Patterns h) = ⊥
+OfKind Csgp (table.Rows h) = ⊥
+OfKind Csgp (table.Patterns h) = Unit
+
 -- a table that was read: all of its patterns are ahead of the first
-pub record Held (kind : TableKind) (s : List ℕ) (t : SampleTable) : Type 0 where
-  pub patterns : patternsOf kind s ≡ given (aheadIn s t (allIn t))
+pub record Held (of : TableKind) (s : List ℕ) (t : SampleTable) : Type 0 where
+  pub kind : OfKind of t
+  pub patterns : patternsOf of s ≡ given (aheadIn s t (allIn t))
   pub whole : WholeIn s t (allIn t)
   pub laid : LaidIn s t
 

@@ -12,3 +12,7 @@ use Rattle.table_csgp_head.specs.Csgp.{csgp}
 abbrev pub patternsOf : TableKind → List ℕ → Answer (List Pattern)
 patternsOf Sbgp s = andThen (sbgp s) (λ t. given (map single (t .rows)))
 patternsOf Csgp s = csgp s
+
+-- no table covers more samples: as many patterns as a 32-bit field counts, each with the largest count of a 32-bit field
+abbrev pub coveredLimit : ℕ
+coveredLimit = 18446744065119617025

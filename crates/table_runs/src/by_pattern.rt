@@ -8,9 +8,11 @@ use table_csgp_head::patterns_behind;
 use table_patterns::PatternAt;
 ghost use mathlib.Core.Path.{_≡_};
 ghost use Prim.Native.Nat.{_+_, _≤_};
+ghost use Rattle.table_rows.specs.Pattern.{coveredBy};
 ghost use lib.ListN.{length};
 ghost use Rattle.base_fields.specs.Answer.{inputLimit};
-ghost use Rattle.table_runs.specs.Ahead.{allIn, rowPlace, WholeIn, GivesPattern};
+ghost use Rattle.table_runs.specs.Ahead.{allIn, aheadIn, rowPlace, WholeIn, GivesPattern};
+ghost use Rattle.table_runs.specs.Patterns.{coveredLimit};
 
 // All patterns of a table.
 pub fn first_pattern(table: SampleTable) -> PatternsAt
@@ -63,6 +65,24 @@ pub fn next_pattern(s: &[u8], table: SampleTable, here: PatternsAt) -> NextPatte
         SampleTable::Patterns(head) => {
             let pattern = pattern_at(s, head, here);
             NextPattern::Pattern(pattern, patterns_behind(head, here, pattern.length))
+        }
+    }
+}
+
+// How many samples a table covers.
+pub fn count_samples(s: &[u8], table: SampleTable) -> u64
+    requires { ⌜ WholeIn (now s) table (allIn table) ⌝ }
+    ensures { λ r. ⌜ (r ≡ coveredBy (aheadIn (now (s .entry)) table (allIn table))) × (r ≤ coveredLimit) ⌝ }
+{
+    let mut here = first_pattern(table);
+    let mut sum: u64 = 0;
+    loop {
+        match next_pattern(s, table, here) {
+            NextPattern::Pattern(pattern, behind) => {
+                sum = sum + pattern.count as u64;
+                here = behind;
+            }
+            NextPattern::End => return sum,
         }
     }
 }

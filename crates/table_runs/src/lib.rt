@@ -3,6 +3,7 @@
 mod by_pattern;
 mod by_run;
 
+pub use self::by_pattern::count_samples;
 pub use self::by_pattern::first_pattern;
 pub use self::by_pattern::next_pattern;
 pub use self::by_run::first_run;
