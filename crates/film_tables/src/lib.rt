@@ -4,11 +4,13 @@ ghost use Rattle.table_rows.specs.Row.{recordsIn, lookup, total};
 ghost use Rattle.table_rows.specs.Found.{toldIndex, toldCovered, toldTable};
 ghost use Rattle.table_sbgp.specs.Sbgp.{parseSbgp};
 ghost use Rattle.table_csgp.specs.Table.{parseCsgp};
+ghost use Rattle.table_needed.specs.Needed.{rowsNeeded, toldNeeded};
 ghost use Rattle.film_status.specs.Status.{Returns, oneNumber};
 ghost use Rattle.film_tables.specs.Tables.{Fills, headNumbers};
 use base_ids::RowNumber;
 use base_ids::SampleCount;
 use base_ids::SampleNumber;
+use table_needed::RowsNeeded;
 use table_rows::Covered;
 use table_rows::Found;
 use table_rows::ParsedTable;
@@ -42,6 +44,35 @@ pub extern "C" fn film_parse_csgp(s: &[u8], rows: &mut [RowNumber], out: &mut [u
     ensures { λ r. ⌜ Fills (parseCsgp (now (s .entry)) (recordsIn (now (rows .entry)))) (now (rows .entry)) (now (rows .exit)) (now (out .entry)) (now (out .exit)) r ⌝ }
 {
     put_head(table_csgp::parse_csgp(s, rows), out)
+}
+
+// Hands the number of rows out.
+fn put_needed(needed: RowsNeeded, out: &mut [u64; 1]) -> u32
+    ensures { λ r. ⌜ Returns (toldNeeded needed) oneNumber (now (out .entry)) (now (out .exit)) r ⌝ }
+{
+    match needed {
+        RowsNeeded::Rows(n) => {
+            out[0] = n as u64;
+            0
+        }
+        RowsNeeded::Refused(n) => n,
+    }
+}
+
+// out: the number of rows that an sbgp payload needs.
+#[no_mangle]
+pub extern "C" fn film_sbgp_rows_needed(s: &[u8], out: &mut [u64; 1]) -> u32
+    ensures { λ r. ⌜ Returns (rowsNeeded parseSbgp (now (s .entry))) oneNumber (now (out .entry)) (now (out .exit)) r ⌝ }
+{
+    put_needed(table_needed::sbgp_rows_needed(s), out)
+}
+
+// The same for a csgp payload.
+#[no_mangle]
+pub extern "C" fn film_csgp_rows_needed(s: &[u8], out: &mut [u64; 1]) -> u32
+    ensures { λ r. ⌜ Returns (rowsNeeded parseCsgp (now (s .entry))) oneNumber (now (out .entry)) (now (out .exit)) r ⌝ }
+{
+    put_needed(table_needed::csgp_rows_needed(s), out)
 }
 
 // out: the index of the row that covers the sample (counted from 0), 0 past the end.
