@@ -1,4 +1,6 @@
 pub mod Onward
 pub mod Entries
 pub mod Heads
+pub mod Marked
 pub mod ByNumber
+pub mod Numbered

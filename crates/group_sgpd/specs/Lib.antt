@@ -1,3 +1,4 @@
 pub mod Head
+pub mod Marks
 pub mod Sgpd
 pub mod Told

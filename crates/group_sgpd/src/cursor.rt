@@ -23,7 +23,12 @@ pub fn first_entry(head: SgpdHead) -> EntryCursor
 }
 
 // The entry of a number that the cursor has not passed.
-fn entry_onward(s: &[u8], head: SgpdHead, cursor: EntryCursor, index: DescriptionIndex) -> EntryStep
+pub(crate) fn entry_onward(
+    s: &[u8],
+    head: SgpdHead,
+    cursor: EntryCursor,
+    index: DescriptionIndex,
+) -> EntryStep
     requires { ⌜ ReadWhole (now s) head ⌝ }
     requires { ⌜ OnEntry (now s) cursor ⌝ }
     requires { ⌜ (cursor .index .0 ≤ index .0) × (index .0 ≤ head .«entry_count») ⌝ }

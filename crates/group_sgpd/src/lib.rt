@@ -2,6 +2,7 @@
 mod cursor;
 mod head;
 mod lookup;
+mod marks;
 mod spans;
 
 ghost use mathlib.Core.Path.{_≡_};
@@ -15,6 +16,9 @@ pub use cursor::first_entry;
 use head::sgpd_head;
 pub use lookup::entry;
 pub use lookup::entry_place;
+pub use marks::MARKS;
+pub use marks::entry_marks;
+pub use marks::marked_entry;
 use spans::skip_all;
 
 pub struct SampleGroupDescription {
