@@ -1,0 +1,2 @@
+pub mod Stand
+pub mod Steps
