@@ -1,0 +1,55 @@
+-- Four bytes, one after the other.
+use Rattle.listing_numbers.proofs.Stores.{puts-then}
+use borrow.Author.Needs.{needs}
+use Rattle.listing_numbers.proofs.put_type.Statement.{statement}
+use Rattle.listing_numbers.proofs.put_type.Tie as tie
+
+cast-put-byte : tie.Need-cast-put-byte
+cast-put-byte c = search needs
+
+put-byte-requires : tie.Need-put-byte-requires
+put-byte-requires c κs = search needs
+
+cast-put-byte-2 : tie.Need-cast-put-byte-2
+cast-put-byte-2 c = search needs
+
+put-byte-requires-2 : tie.Need-put-byte-requires-2
+put-byte-requires-2 c κs = search needs
+
+cast-put-byte-3 : tie.Need-cast-put-byte-3
+cast-put-byte-3 c = search needs
+
+put-byte-requires-3 : tie.Need-put-byte-requires-3
+put-byte-requires-3 c κs = search needs
+
+cast-put-byte-4 : tie.Need-cast-put-byte-4
+cast-put-byte-4 c = search needs
+
+put-byte-requires-4 : tie.Need-put-byte-requires-4
+put-byte-requires-4 c κs = search needs
+
+same-length : tie.Need-same-length
+same-length c = search needs
+
+returns : tie.Need-returns
+returns c =
+    let fourth = c .before .before in
+    let third = fourth .before .before .before .before in
+    let second = third .before .before .before .before in
+    let first = second .before .before .before .before in
+    puts-then (first .put-byte .ensures) (puts-then (second .put-byte2 .ensures) (puts-then (third .put-byte3 .ensures) (fourth .put-byte4 .ensures)))
+
+pub put-type-spec : {M : Type 1} → statement M
+put-type-spec =
+    tie.close
+    (tie.spec
+    cast-put-byte
+    put-byte-requires
+    cast-put-byte-2
+    put-byte-requires-2
+    cast-put-byte-3
+    put-byte-requires-3
+    cast-put-byte-4
+    put-byte-requires-4
+    same-length
+    returns)
