@@ -3,3 +3,4 @@ pub mod Headers
 pub mod Tables
 pub mod Descriptions
 pub mod All
+pub mod Listing

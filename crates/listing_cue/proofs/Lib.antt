@@ -1,0 +1,5 @@
+pub mod From
+pub mod DemandThree
+pub mod Writing
+pub mod Listed
+pub mod Fits

@@ -1,0 +1,112 @@
+-- The walk's refusals; else the payloads that it found stand in the body, and the listing is that of `list_payloads`.
+use mathlib.Core.Path.{_≡_, refl, ap, sym, _∙_}
+use Prim.Native.Nat.{ℕ, _+_, _-_}
+use native.Mathlib.Omega.{arith}
+use borrow.Author.Needs.{needs}
+use Rattle.listing_walk.proofs.Stand.{table-stands, sgpd-stands}
+use Rattle.listing_cue.proofs.From.{walk-refused, walk-found}
+use Rattle.listing_cue.proofs.Listed.{gives-refused}
+use Rattle.listing_cue.proofs.cue_listing.Statement.{statement}
+use Rattle.listing_cue.proofs.cue_listing.Tie as tie
+
+-- a part as it is cut
+cut : (place size : ℕ) → place + size - place ≡ size
+cut place size = omega arith
+
+find-sources-requires : tie.Need-find-sources-requires
+find-sources-requires c κs = search needs
+
+enum-known-f : tie.Need-enum-known-f
+enum-known-f c = search needs
+
+enum-known-n : tie.Need-enum-known-n
+enum-known-n c = search needs
+
+returns : tie.Need-returns
+returns c =
+    let start = c .before .before .before .before .before .before .before in
+    let a = start .args in
+    gives-refused _ _ _ (walk-refused (a .body .now) (a .grouping-type) _ _ (rw (c .before .n .given .1) at (c .before .before .before .find-sources .ensures)))
+
+add-table-end : tie.Need-add-table-end
+add-table-end c =
+    let start = c .before .before .before .before .before .before .before .before in
+    let a = start .args in
+    let found = rw (c .before .before .f .given .1) at (c .before .before .before .before .find-sources .ensures) in
+    let f = c .before .before .f .given .0 .0 in
+    omega (arith, table-stands (a .body .now) (a .grouping-type) f found .inside, start .good .0)
+
+add-sgpd-end : tie.Need-add-sgpd-end
+add-sgpd-end c =
+    let start = c .before .before .before .before .before .before .before .before .before in
+    let a = start .args in
+    let found = rw (c .before .before .before .f .given .1) at (c .before .before .before .before .before .find-sources .ensures) in
+    let f = c .before .before .before .f .given .0 .0 in
+    omega (arith, sgpd-stands (a .body .now) (a .grouping-type) f found .inside, start .good .0)
+
+sub-list-payloads : tie.Need-sub-list-payloads
+sub-list-payloads c = search needs
+
+part-list-payloads-start : tie.Need-part-list-payloads-start
+part-list-payloads-start c = search needs
+
+part-list-payloads-end : tie.Need-part-list-payloads-end
+part-list-payloads-end c =
+    let start = c .before .before .before .before .before .before .before .before .before in
+    let a = start .args in
+    let found = rw (c .before .before .before .f .given .1) at (c .before .before .before .before .before .find-sources .ensures) in
+    let f = c .before .before .before .f .given .0 .0 in
+    table-stands (a .body .now) (a .grouping-type) f found .inside
+
+sub-list-payloads-2 : tie.Need-sub-list-payloads-2
+sub-list-payloads-2 c = search needs
+
+part-list-payloads-start-2 : tie.Need-part-list-payloads-start-2
+part-list-payloads-start-2 c = search needs
+
+part-list-payloads-end-2 : tie.Need-part-list-payloads-end-2
+part-list-payloads-end-2 c =
+    let start = c .before .before .before .before .before .before .before .before .before .before in
+    let a = start .args in
+    let found = rw (c .before .before .before .before .f .given .1) at (c .before .before .before .before .before .before .find-sources .ensures) in
+    let f = c .before .before .before .before .f .given .0 .0 in
+    sgpd-stands (a .body .now) (a .grouping-type) f found .inside
+
+list-payloads-requires : tie.Need-list-payloads-requires
+list-payloads-requires c κs = search needs
+
+same-length : tie.Need-same-length
+same-length c = search needs
+
+same-length-2 : tie.Need-same-length-2
+same-length-2 c = search needs
+
+returns-2 : tie.Need-returns-2
+returns-2 c =
+    let start = c .before .before .before .before .before .before .before .before .before .before .before .before .before .before .before .before .before .before in
+    let a = start .args in
+    let found = rw (c .before .before .before .before .before .before .before .before .before .before .before .before .f .given .1) at (c .before .before .before .before .before .before .before .before .before .before .before .before .before .before .find-sources .ensures) in
+    let f = c .before .before .before .before .before .before .before .before .before .before .before .before .f .given .0 .0 in
+    let listed = rw (cut (f .«table_place») (f .«table_size»), cut (f .«sgpd_place») (f .«sgpd_size»)) at (c .before .before .before .before .list-payloads .ensures) in
+    rw (walk-found (a .body .now) (a .grouping-type) _ _ f found) listed
+
+pub cue-listing-spec : {M : Type 1} → statement M
+cue-listing-spec =
+    tie.close
+    (tie.spec
+    find-sources-requires
+    enum-known-f
+    enum-known-n
+    returns
+    add-table-end
+    add-sgpd-end
+    sub-list-payloads
+    part-list-payloads-start
+    part-list-payloads-end
+    sub-list-payloads-2
+    part-list-payloads-start-2
+    part-list-payloads-end-2
+    list-payloads-requires
+    same-length
+    same-length-2
+    returns-2)

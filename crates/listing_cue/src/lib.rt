@@ -1,0 +1,142 @@
+// The cue listing of an stbl's body (document 01, part 8).
+mod write;
+
+use base_ids::RowNumber;
+use group_sgpd::ReadHead;
+use group_sgpd::SgpdHead;
+use group_sgpd::entry_marks;
+use group_sgpd::read_sgpd;
+use listing_meanings::Checked;
+use listing_meanings::check_used;
+use listing_measure::MeasuredListing;
+use listing_measure::measure_listing;
+use listing_walk::FoundSources;
+use listing_walk::find_sources;
+use table_csgp::measure::Measured;
+use table_front::TableKind;
+use table_records::count_rows;
+use table_records::write_rows;
+use table_runs::ReadTable;
+use table_runs::SampleTable;
+use table_runs::count_samples;
+use table_runs::read_table;
+use write::write_listing;
+ghost use mathlib.Core.Path.{_≡_};
+ghost use lib.ListN.{length};
+ghost use Rattle.base_fields.specs.Answer.{given};
+ghost use Rattle.group_sgpd.specs.Head.{ReadWhole};
+ghost use Rattle.table_rows.specs.Row.{Table, recordsIn};
+ghost use Rattle.table_runs.specs.Ahead.{allIn, WholeIn, LaidIn};
+ghost use Rattle.table_records.specs.Lent.{tableFrom};
+ghost use Rattle.listing_spec.specs.Cue.{cueCall};
+ghost use Rattle.listing_cue.specs.Told.{GivesCue};
+ghost use Rattle.listing_cue.specs.From.{cueFrom, GivesListed};
+
+// What an accepted call gives: the listing's length and the row count.
+pub struct CueLengths {
+    pub listing: usize,
+    pub rows: usize,
+}
+
+pub enum CueListing {
+    Listing(CueLengths),
+    Refused(u32),
+}
+
+// The table and the descriptions are read, and the table's rows find records enough: the decoders' refusals, and 54; then both are written.
+fn list_samples(
+    table_s: &[u8],
+    table: SampleTable,
+    count: usize,
+    s: &[u8],
+    head: SgpdHead,
+    grouping_type: u32,
+    rows: &mut [RowNumber],
+    out: &mut [u8],
+) -> CueListing
+    requires { ⌜ (WholeIn (now «table_s») table (allIn table)) × (LaidIn (now «table_s») table) × (ReadWhole (now s) head) ⌝ }
+    requires { ⌜ ((x : Table) × (tableFrom (now «table_s») table (recordsIn (now rows)) ≡ given x) × (length (x .rows) ≡ count)) ⌝ }
+    ensures { λ r. ⌜ GivesListed (now («table_s» .entry)) table (now (s .entry)) «grouping_type» (now (rows .entry)) (now (rows .exit)) (now (out .entry)) (now (out .exit)) r ⌝ }
+{
+    let marks = entry_marks(s, head);
+    if let Checked::Refused(n) = check_used(table_s, table, s, head, &marks, grouping_type) {
+        return CueListing::Refused(n);
+    }
+    let samples = count_samples(table_s, table);
+    let limit = out.len();
+    let listing = match measure_listing(
+        grouping_type,
+        table_s,
+        table,
+        s,
+        head,
+        &marks,
+        samples,
+        &mut out[..0],
+        limit,
+    ) {
+        MeasuredListing::Bytes(n) => n,
+        MeasuredListing::Over => return CueListing::Refused(54),
+    };
+    write_rows(table_s, table, rows);
+    let end = 2 * count;
+    write_listing(grouping_type, s, head, &marks, &rows[..end], samples, out);
+    CueListing::Listing(CueLengths {
+        listing,
+        rows: count,
+    })
+}
+
+// What follows the walk: the payloads of the table and of the sgpd.
+fn list_payloads(
+    kind: TableKind,
+    table_s: &[u8],
+    s: &[u8],
+    grouping_type: u32,
+    rows: &mut [RowNumber],
+    out: &mut [u8],
+) -> CueListing
+    ensures { λ r. ⌜ GivesCue (cueFrom kind (now («table_s» .entry)) (now (s .entry)) «grouping_type» (recordsIn (now (rows .entry))) (length (now (out .entry)))) (now (rows .entry)) (now (rows .exit)) (now (out .entry)) (now (out .exit)) r ⌝ }
+{
+    let table = match read_table(table_s, kind) {
+        ReadTable::Table(t) => t,
+        ReadTable::Refused(n) => return CueListing::Refused(n),
+    };
+    let count = match count_rows(table_s, table, rows.len() / 2) {
+        Measured::Rows(n) => n,
+        Measured::Refused(n) => return CueListing::Refused(n),
+    };
+    let head = match read_sgpd(s) {
+        ReadHead::Head(h) => h,
+        ReadHead::Refused(n) => return CueListing::Refused(n),
+    };
+    list_samples(table_s, table, count, s, head, grouping_type, rows, out)
+}
+
+// Writes the table's rows in front of the lent run and the listing in front of the output. Nothing is written on refusal.
+pub fn cue_listing(
+    body: &[u8],
+    grouping_type: u32,
+    rows: &mut [RowNumber],
+    out: &mut [u8],
+) -> CueListing
+    ensures { λ r. ⌜ GivesCue (cueCall (now (body .entry)) «grouping_type» (now (rows .entry)) (now (out .entry))) (now (rows .entry)) (now (rows .exit)) (now (out .entry)) (now (out .exit)) r ⌝ }
+{
+    let found = match find_sources(body, grouping_type) {
+        FoundSources::Sources(f) => f,
+        FoundSources::Refused(n) => return CueListing::Refused(n),
+    };
+    let kind = found.kind;
+    let table = found.table_place;
+    let table_end = table + found.table_size;
+    let sgpd = found.sgpd_place;
+    let sgpd_end = sgpd + found.sgpd_size;
+    list_payloads(
+        kind,
+        &body[table..table_end],
+        &body[sgpd..sgpd_end],
+        grouping_type,
+        rows,
+        out,
+    )
+}
