@@ -72,6 +72,13 @@ static void tables(void) {
     expect("film_parse_sbgp", rows[1], 1);
     expect("film_parse_sbgp", rows[4], 0x77777777);
 
+    expect("film_sbgp_rows_needed", film_sbgp_rows_needed(sbgp, 28, one), FILM_OK);
+    expect("film_sbgp_rows_needed", one[0], 2);
+    expect("film_sbgp_rows_needed", film_sbgp_rows_needed(sbgp, 27, one), FILM_ROWS_CUT);
+
+    expect("film_csgp_rows_needed", film_csgp_rows_needed(csgp, 14, one), FILM_OK);
+    expect("film_csgp_rows_needed", one[0], 3);
+    expect("film_csgp_rows_needed", film_csgp_rows_needed(csgp, 13, one), FILM_INDEX_CUT);
     expect("film_parse_csgp", film_parse_csgp(csgp, 14, rows, 8, head), FILM_OK);
     expect("film_parse_csgp", head[2], 3);
     expect("film_parse_csgp", rows[5], 1);
@@ -147,11 +154,38 @@ static void entries(void) {
     expect("film_decode_alike", out[0], 0);
 }
 
+static void listing(void) {
+    /* the stbl of the film without its csgp: 62 bytes */
+    uint8_t body[62], output[16];
+    static const uint8_t want[] = {0x72, 0x6f, 0x6c, 0x6c, 0x03, 0x02, 0x02, 0xfe, 0xff, 0x01, 0x01, 0x00};
+    uint32_t rows[6];
+    uint64_t lengths[2];
+    memcpy(body, film + 8, 36);
+    memcpy(body + 36, film + 66, 26);
+    memset(output, 0x77, sizeof output);
+    memset(rows, 0x77, sizeof rows);
+    expect("film_cue_listing", film_cue_listing(body, 62, 0x726f6c6c, rows, 6, output, 11, lengths), FILM_OUTPUT_TOO_SHORT);
+    expect("film_cue_listing", film_cue_listing(body, 62, 0x726f6c6c, rows, 3, output, 16, lengths), FILM_NO_RECORD_LEFT);
+    expect("film_cue_listing", film_cue_listing(body, 62, 0x72617020, rows, 6, output, 16, lengths), FILM_NO_TABLE);
+    expect("film_cue_listing", film_cue_listing(body, 36, 0x726f6c6c, rows, 6, output, 16, lengths), FILM_NO_SGPD);
+    expect("film_cue_listing", film_cue_listing(film + 8, 84, 0x726f6c6c, rows, 6, output, 16, lengths), FILM_SECOND_TABLE);
+    expect("film_cue_listing", rows[0], 0x77777777);
+    expect("film_cue_listing", output[0], 0x77);
+    expect("film_cue_listing", film_cue_listing(body, 62, 0x726f6c6c, rows, 6, output, 16, lengths), FILM_OK);
+    expect("film_cue_listing", lengths[0], sizeof want);
+    expect("film_cue_listing", lengths[1], 2);
+    expect("film_cue_listing", memcmp(output, want, sizeof want) == 0, 1);
+    expect("film_cue_listing", output[12], 0x77);
+    expect("film_cue_listing", rows[0] == 2 && rows[1] == 1 && rows[2] == 1 && rows[3] == 0, 1);
+    expect("film_cue_listing", rows[4], 0x77777777);
+}
+
 int main(void) {
     atoms();
     tables();
     descriptions();
     entries();
+    listing();
     if (failures == 0) {
         puts("film_index.h: every call gave its answer");
     }

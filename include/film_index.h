@@ -6,14 +6,14 @@
  *   FILM_OK       the value is in `out`, which is then written whole;
  *   FILM_NONE     there is no such thing, or a walk is done;
  *   else          the number of a refusal (FILM_HEADER_CUT and so on): the first that applies.
- * Without FILM_OK nothing is written: `out`, rows and every other lent byte stay as they were. No refusal is 0 or 255.
+ * Without FILM_OK nothing is written: `out`, rows, a listing and every other lent byte stay as they were. No refusal is 0 or 255.
  * film_rate_of_point cannot fail and returns its value.
  *
  * Lent memory. `out` has the length that the declaration names. What one call is lent must not overlap where any of it is written. A pointer whose
  * length is 0 is not read: it may dangle, but it must not be null.
  *
  * Limits. An input of more than FILM_INPUT_LIMIT bytes is refused before anything else (FILM_INPUT_TOO_LONG). A run of rows that is read may have
- * FILM_RECORD_LIMIT records, else the same refusal; a run lent only to be filled has no limit.
+ * FILM_RECORD_LIMIT records, else the same refusal; a run or an output lent only to be filled has no limit.
  *
  * Two inputs. FILM_INPUT_TOO_LONG of either comes first; then the refusals of the first input, then those of the second.
  *
@@ -59,7 +59,7 @@ extern "C" {
 #define FILM_ROW_COUNT_OVER 28u        /* a row would cover more than 4,294,967,295 samples */
 #define FILM_NO_RECORD_LEFT 29u        /* more rows than records were lent */
 /* Refusals: group descriptions */
-#define FILM_SHORT_SGPD 30u            /* under 12 bytes */
+#define FILM_SHORT_SGPD 30u            /* under 12 bytes; in the walk of a cue listing under 8 */
 #define FILM_NO_DEFAULT_INDEX 31u
 #define FILM_NO_ENTRY_COUNT 32u
 #define FILM_NO_ENTRY_LENGTH 33u
@@ -72,6 +72,12 @@ extern "C" {
 #define FILM_TRAILER_CUT 43u           /* rash */
 #define FILM_OFFSETS_CUT 44u           /* alst */
 #define FILM_PIECES_CUT 45u            /* alst: the tail is not a multiple of 4 */
+/* Refusals: the cue listing */
+#define FILM_NO_TABLE 50u              /* no sbgp and no csgp of the type */
+#define FILM_SECOND_TABLE 51u
+#define FILM_NO_SGPD 52u               /* no sgpd of the type */
+#define FILM_SECOND_SGPD 53u
+#define FILM_OUTPUT_TOO_SHORT 54u      /* the listing is longer than the output */
 /* Refusals: every function with an input */
 #define FILM_INPUT_TOO_LONG 55u
 
@@ -101,6 +107,13 @@ uint32_t film_parse_sbgp(const uint8_t *s, size_t len, uint32_t *rows, size_t ro
 
 /* The rows of a csgp payload: its patterns replayed over their samples, equal neighbours joined. out as for sbgp. */
 uint32_t film_parse_csgp(const uint8_t *s, size_t len, uint32_t *rows, size_t rows_len, uint64_t out[3]);
+
+/* The number of rows that an sbgp payload needs. out: that number, n. film_parse_sbgp then takes rows_len 2 * n or more; with fewer than n records it answers
+ * FILM_NO_RECORD_LEFT. The refusals are those of film_parse_sbgp, but never FILM_NO_RECORD_LEFT. */
+uint32_t film_sbgp_rows_needed(const uint8_t *s, size_t len, uint64_t out[1]);
+
+/* The same for a csgp payload and film_parse_csgp. */
+uint32_t film_csgp_rows_needed(const uint8_t *s, size_t len, uint64_t out[1]);
 
 /* The description index (counted from 1, 0: none) of a sample (counted from 0). out: the index; 0 past the last row. */
 uint32_t film_group_index_for_sample(const uint32_t *rows, size_t rows_len, uint32_t sample, uint64_t out[1]);
@@ -143,6 +156,21 @@ uint32_t film_described_place(const uint8_t *film, size_t film_len, const uint8_
 
 /* The value bitrate * share / 100, rounded down. */
 uint64_t film_rate_of_point(uint32_t bitrate, uint16_t share);
+
+/* Cue listing. */
+
+/* The cue listing of one grouping type in `body`, the body of an stbl: the four type bytes, the number of samples that the type's table covers, and for each longest
+ * stretch of samples of one meaning its length, its kind (0: no group, 1: an index past the entries, 2: an entry) and, for kind 2, the entry's decoded fields, or, for a
+ * type without a decoder, its byte count and bytes. Numbers have seven bits to a byte, lowest first, the top bit set on all but the last. Two tables that give every
+ * sample the same meaning have the same listing, byte for byte, and no others do.
+ *
+ * The rows of the table are left in `rows`, a run of `rows_len` numbers as above (FILM_NO_RECORD_LEFT where it is too short), and the listing in front of the
+ * `listing_len` bytes of `listing`; what stands behind them stays. out: the listing's length in bytes, the row count.
+ *
+ * Refusals, in order: those of the walk over the children, as it meets them (FILM_OPEN_BODY, FILM_SHORT_TABLE or FILM_SHORT_SGPD of an sbgp, a csgp or an sgpd of any
+ * type; a second table, a second sgpd of this type); FILM_NO_TABLE; FILM_NO_SGPD; the table's; the sgpd's; the decoder's, for the entries of samples, in their order;
+ * FILM_OUTPUT_TOO_SHORT. */
+uint32_t film_cue_listing(const uint8_t *body, size_t len, uint32_t grouping_type, uint32_t *rows, size_t rows_len, uint8_t *listing, size_t listing_len, uint64_t out[2]);
 
 #ifdef __cplusplus
 }

@@ -64,6 +64,11 @@ refusals! {
     TrailerCut = 43,
     OffsetsCut = 44,
     PiecesCut = 45,
+    NoTable = 50,
+    SecondTable = 51,
+    NoSgpd = 52,
+    SecondSgpd = 53,
+    OutputTooShort = 54,
     InputTooLong = 55,
 }
 
@@ -84,6 +89,8 @@ pub mod raw {
         pub fn film_read_payload_bounded(s: *const u8, len: usize, at: u64, max_remaining: u64, out: *mut [u64; 2]) -> u32;
         pub fn film_parse_sbgp(s: *const u8, len: usize, rows: *mut u32, rows_len: usize, out: *mut [u64; 3]) -> u32;
         pub fn film_parse_csgp(s: *const u8, len: usize, rows: *mut u32, rows_len: usize, out: *mut [u64; 3]) -> u32;
+        pub fn film_sbgp_rows_needed(s: *const u8, len: usize, out: *mut [u64; 1]) -> u32;
+        pub fn film_csgp_rows_needed(s: *const u8, len: usize, out: *mut [u64; 1]) -> u32;
         pub fn film_group_index_for_sample(rows: *const u32, rows_len: usize, sample: u32, out: *mut [u64; 1]) -> u32;
         pub fn film_covered_samples(rows: *const u32, rows_len: usize, out: *mut [u64; 1]) -> u32;
         pub fn film_parse_sgpd(s: *const u8, len: usize, out: *mut [u64; 5]) -> u32;
@@ -102,6 +109,16 @@ pub mod raw {
         pub fn film_split_csgp_index(raw: u32, out: *mut [u64; 2]) -> u32;
         pub fn film_described_place(film: *const u8, film_len: usize, fragment: *const u8, fragment_len: usize, raw: u32, out: *mut [u64; 3]) -> u32;
         pub fn film_rate_of_point(bitrate: u32, share: u16) -> u64;
+        pub fn film_cue_listing(
+            body: *const u8,
+            len: usize,
+            grouping_type: u32,
+            rows: *mut u32,
+            rows_len: usize,
+            listing: *mut u8,
+            listing_len: usize,
+            out: *mut [u64; 2],
+        ) -> u32;
     }
 
     pub const OK: u32 = 0;
@@ -198,6 +215,18 @@ pub fn parse_sbgp(payload: &[u8], rows: &mut [SampleToGroupEntry]) -> Result<Sam
 
 pub fn parse_csgp(payload: &[u8], rows: &mut [SampleToGroupEntry]) -> Result<SampleToGroup> {
     parse(raw::film_parse_csgp, payload, rows)
+}
+
+/// How many rows `parse_sbgp` needs to be lent for a payload; with fewer it answers `NoRecordLeft`, which is never the answer here.
+pub fn sbgp_rows_needed(payload: &[u8]) -> Result<u64> {
+    let [count] = value(|out| unsafe { raw::film_sbgp_rows_needed(payload.as_ptr(), payload.len(), out) })?;
+    Ok(count)
+}
+
+/// The same for `parse_csgp`.
+pub fn csgp_rows_needed(payload: &[u8]) -> Result<u64> {
+    let [count] = value(|out| unsafe { raw::film_csgp_rows_needed(payload.as_ptr(), payload.len(), out) })?;
+    Ok(count)
 }
 
 /// The description index of a sample (both as in the Rust: samples from 0, descriptions from 1); 0 past the last row.
@@ -380,4 +409,21 @@ pub fn described<'a>(film: &'a [u8], fragment: &'a [u8], raw: u32) -> Result<Opt
 /// bitrate * share / 100, rounded down.
 pub fn rate_of_point(bitrate: u32, share: u16) -> u64 {
     unsafe { raw::film_rate_of_point(bitrate, share) }
+}
+
+/// What a cue listing's call left in the lent memory.
+#[derive(Clone, Copy, Debug, PartialEq, Eq)]
+pub struct CueListing {
+    /// How many bytes of the listing stand in front of the output.
+    pub length: usize,
+    /// How many rows stand in front of the lent ones.
+    pub entry_count: usize,
+}
+
+/// The cue listing of one grouping type in the body of an stbl (the form is told in film_index.h). The table's rows are left in `rows`.
+pub fn cue_listing(body: &[u8], grouping_type: [u8; 4], rows: &mut [SampleToGroupEntry], listing: &mut [u8]) -> Result<CueListing> {
+    let kind = u32::from_be_bytes(grouping_type);
+    let (run, numbers, output, room) = (rows.as_mut_ptr().cast(), 2 * rows.len(), listing.as_mut_ptr(), listing.len());
+    let [length, count] = value(|out| unsafe { raw::film_cue_listing(body.as_ptr(), body.len(), kind, run, numbers, output, room, out) })?;
+    Ok(CueListing { length: length as usize, entry_count: count as usize })
 }

@@ -10,7 +10,7 @@ use crate::standalone::{Error, Result};
 use std::io::{Cursor, Read, Seek, SeekFrom};
 
 /// The number of an error: document 01's, by the Rust's message. An end of file is `eof`: 2 in a header, 11 in a body.
-fn number(error: &Error, eof: u32) -> u32 {
+pub fn number(error: &Error, eof: u32) -> u32 {
     let Error::InvalidData(text) = error else {
         return match error {
             Error::Io(e) if e.kind() == std::io::ErrorKind::UnexpectedEof => eof,

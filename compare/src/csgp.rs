@@ -8,7 +8,7 @@ use super::tally::Tally;
 use super::vectors::Vectors;
 use crate::sample_groups;
 
-const WIDTHS: [u32; 4] = [4, 8, 16, 32];
+pub const WIDTHS: [u32; 4] = [4, 8, 16, 32];
 
 /// The largest pattern length, and the largest sum of counts, of document 01's domain.
 const MOST: u32 = 1_000_000;
@@ -35,11 +35,11 @@ impl Bits {
 
 /// The codes of index, count and pattern length, and whether a parameter is there.
 #[derive(Clone, Copy)]
-struct Shape {
-    index: usize,
-    count: usize,
-    length: usize,
-    parameter: bool,
+pub struct Shape {
+    pub index: usize,
+    pub count: usize,
+    pub length: usize,
+    pub parameter: bool,
 }
 
 impl Shape {
@@ -59,10 +59,10 @@ impl Shape {
 }
 
 /// A pattern: its declared length, its sample count and its indices.
-type Pattern = (u32, u32, Vec<u32>);
+pub type Pattern = (u32, u32, Vec<u32>);
 
 /// A payload, or none where a number does not fit its field.
-fn payload(random: &mut Random, shape: Shape, declared: u32, patterns: &[Pattern]) -> Option<Vec<u8>> {
+pub fn payload(random: &mut Random, shape: Shape, declared: u32, patterns: &[Pattern]) -> Option<Vec<u8>> {
     let [iw, cw, lw] = [shape.index, shape.count, shape.length].map(|c| WIDTHS[c]);
     let fits = |w: u32, v: u32| w == 32 || v < 1 << w;
     let whole = patterns.iter().all(|(l, n, is)| fits(lw, *l) && fits(cw, *n) && is.iter().all(|&i| fits(iw, i)));
@@ -89,7 +89,7 @@ fn payload(random: &mut Random, shape: Shape, declared: u32, patterns: &[Pattern
 }
 
 /// Whether a payload lies in the domain. The pairs are read as far as they go.
-fn in_domain(s: &[u8]) -> bool {
+pub fn in_domain(s: &[u8]) -> bool {
     if s.len() < 12 {
         return true;
     }
@@ -124,6 +124,8 @@ fn compare(tally: &mut Tally, random: &mut Random, s: &[u8]) {
             payloads: "payloads of csgp",
             entry: "parse_csgp",
             ours: ffi::parse_csgp,
+            needed: "csgp_rows_needed",
+            ours_needed: ffi::csgp_rows_needed,
             reference: sample_groups::parse_csgp,
         };
         tables::compare(tally, random, &readers, s);

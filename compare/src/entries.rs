@@ -9,7 +9,7 @@ use super::vectors::Vectors;
 use crate::sample_groups as rust;
 use crate::standalone::{Error, Result};
 
-fn number(error: &Error) -> u32 {
+pub fn number(error: &Error) -> u32 {
     let Error::InvalidData(text) = error else { panic!("an error of another kind: {error}") };
     let known = [
         ("entry < ", 40),

@@ -208,6 +208,16 @@ pub fn parse_csgp(s: &Input, len: usize, numbers: usize) -> Answer<Table> {
     with_rows(s, len, numbers, raw::film_parse_csgp, module::parse_csgp)
 }
 
+pub fn sbgp_rows_needed(s: &Input, len: usize) -> Answer<u64> {
+    let told = with_out::<1>(|out| unsafe { raw::film_sbgp_rows_needed(s.part(len), len, out) }).map(|[count]| count);
+    held(told, len, || module::sbgp_rows_needed(s.bytes(len)).into())
+}
+
+pub fn csgp_rows_needed(s: &Input, len: usize) -> Answer<u64> {
+    let told = with_out::<1>(|out| unsafe { raw::film_csgp_rows_needed(s.part(len), len, out) }).map(|[count]| count);
+    held(told, len, || module::csgp_rows_needed(s.bytes(len)).into())
+}
+
 /// The pairs of a run as rows; a last number without a partner is none.
 fn as_rows(run: &[u32]) -> &[SampleToGroupEntry] {
     unsafe { std::slice::from_raw_parts(run.as_ptr().cast(), run.len() / 2) }
@@ -322,4 +332,38 @@ pub fn rate_of_point(bitrate: u32, share: u16) -> u64 {
     let rate = unsafe { raw::film_rate_of_point(bitrate, share) };
     assert!(module::rate_of_point(bitrate, share) == rate, "the module for Rust gives another rate");
     rate
+}
+
+/// A cue listing as the call hands it out: its bytes and the rows of the table.
+pub type Listing = (Vec<u8>, Vec<(u32, u32)>);
+
+/// What stands in an output before the call of the C interface, and before that of the module.
+const BYTE_GUARD: u8 = 0xc3;
+const OTHER_GUARD: u8 = 0x3c;
+
+/// A run of `numbers` numbers and an output of `room` bytes between guards. Only the rows and the listing in front of them are written.
+pub fn cue_listing(s: &Input, len: usize, kind: [u8; 4], numbers: usize, room: usize) -> Answer<Listing> {
+    let mut run = vec![ROW_GUARD; numbers + 2 * GUARDS];
+    let mut output = vec![BYTE_GUARD; room + 2 * GUARDS];
+    let (rows, bytes) = (run[GUARDS..].as_mut_ptr(), output[GUARDS..].as_mut_ptr());
+    let number = u32::from_be_bytes(kind);
+    let told = with_out::<2>(|out| unsafe { raw::film_cue_listing(s.part(len), len, number, rows, numbers, bytes, room, out) });
+    let (length, count) = match &told {
+        Answer::Given([length, rows]) => (*length as usize, 2 * *rows as usize),
+        _ => (0, 0),
+    };
+    assert!(count <= numbers && length <= room, "more rows or bytes than were lent");
+    assert!(run[..GUARDS].iter().chain(&run[GUARDS + count..]).all(|&g| g == ROW_GUARD), "a number behind the rows was written");
+    assert!(output[..GUARDS].iter().chain(&output[GUARDS + length..]).all(|&g| g == BYTE_GUARD), "a byte behind the listing was written");
+    let written = run[GUARDS..GUARDS + count].chunks_exact(2).map(|p| (p[0], p[1])).collect();
+    let told = told.map(|_| (output[GUARDS..GUARDS + length].to_vec(), written));
+    held(told, len, || {
+        let (mut lent, mut output) = (vec![ROW; numbers / 2], vec![OTHER_GUARD; room]);
+        let told = module::cue_listing(s.bytes(len), kind, &mut lent, &mut output);
+        let (count, length) = told.as_ref().map_or((0, 0), |told| (told.entry_count, told.length));
+        assert!(lent[count..].iter().all(|&row| row == ROW), "a row behind the rows was written");
+        assert!(output[length..].iter().all(|&g| g == OTHER_GUARD), "a byte behind the listing was written");
+        let rows = lent[..count].iter().map(|row| (row.sample_count, row.group_description_index)).collect();
+        Answer::from(told).map(|_| (output[..length].to_vec(), rows))
+    })
 }

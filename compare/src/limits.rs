@@ -2,6 +2,7 @@
 //! and done, and an input at the limit is not refused by it.
 
 use super::ffi::{self, Answer, Input};
+use super::listing;
 use super::tally::Tally;
 
 const BYTES: usize = 67_108_864;
@@ -25,6 +26,8 @@ pub fn run(tally: &mut Tally) {
         }
         check("parse_sbgp", too_long(ffi::parse_sbgp(&long, len, 4)));
         check("parse_csgp", too_long(ffi::parse_csgp(&long, len, 4)));
+        check("sbgp_rows_needed", too_long(ffi::sbgp_rows_needed(&long, len)));
+        check("csgp_rows_needed", too_long(ffi::csgp_rows_needed(&long, len)));
         check("parse_sgpd", too_long(ffi::parse_sgpd(&long, len)));
         check("entry", too_long(ffi::entry_place(&long, len, 0)));
         check("entry", too_long(ffi::entry_place(&long, len, u32::MAX)));
@@ -41,6 +44,8 @@ pub fn run(tally: &mut Tally) {
         check("decode_alst", too_long(ffi::decode_alst(&long, len)));
         check("alst_sample_offset", too_long(ffi::alst_sample_offset(&long, len, u32::MAX)));
         check("alst_piece", too_long(ffi::alst_piece(&long, len, u32::MAX)));
+        check("cue_listing", too_long(ffi::cue_listing(&long, len, *b"roll", 4, 0)));
+        check("cue_listing", too_long(ffi::cue_listing(&long, len, *b"abcd", 0, 16)));
         for kind in [*b"roll", *b"abcd"] {
             check("decode_alike", too_long(ffi::decode_alike(kind, &long, len, &short, 16)));
             check("decode_alike", too_long(ffi::decode_alike(kind, &short, 16, &long, len)));
@@ -54,4 +59,10 @@ pub fn run(tally: &mut Tally) {
         check("covered_samples", too_long(ffi::covered_samples(&rows[..numbers])));
     }
     assert!(rows.iter().all(|&n| n == 0), "rows were written");
+    // A run or an output that is lent to be filled has no limit of its own.
+    let film = Input::new(&listing::starred());
+    for (numbers, room) in [(2 * RECORDS + 2, 12), (4, BYTES + 1)] {
+        let told = ffi::cue_listing(&film, 62, *b"roll", numbers, room).map(|(bytes, rows)| (bytes.len(), rows.len()));
+        tally.same("cue_listing", told, Answer::Given((12, 2)), &|| format!("{numbers} numbers and {room} bytes are lent"));
+    }
 }

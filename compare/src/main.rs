@@ -6,9 +6,11 @@ mod csgp;
 mod entries;
 mod ffi;
 mod limits;
+mod listing;
 mod random;
 mod sbgp;
 mod sgpd;
+mod stbl;
 mod tables;
 mod tally;
 mod vectors;
@@ -42,8 +44,19 @@ pub fn main() {
         }
         return;
     }
-    let parts: [fn(&mut tally::Tally); 9] =
-        [csgp::run, csgp::run_long, atoms::run, sgpd::run, sgpd::run_long, entries::run, entries::run_long, sbgp::run, limits::run];
+    let parts: [fn(&mut tally::Tally); 11] = [
+        csgp::run,
+        csgp::run_long,
+        atoms::run,
+        sgpd::run,
+        sgpd::run_long,
+        entries::run,
+        entries::run_long,
+        sbgp::run,
+        limits::run,
+        listing::run,
+        listing::run_pairs,
+    ];
     let tallies = std::thread::scope(|threads| {
         let running = parts.map(|part| {
             threads.spawn(move || {

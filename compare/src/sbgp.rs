@@ -8,7 +8,7 @@ use super::tally::Tally;
 use super::vectors::Vectors;
 use crate::sample_groups;
 
-fn payload(random: &mut Random, version: u8, count: u32, rows: &[(u32, u32)]) -> Vec<u8> {
+pub fn payload(random: &mut Random, version: u8, count: u32, rows: &[(u32, u32)]) -> Vec<u8> {
     let mut s = vec![version, random.next() as u8, 0, 1];
     s.extend(b"roll");
     if version == 1 {
@@ -27,6 +27,8 @@ fn compare(tally: &mut Tally, random: &mut Random, s: &[u8]) {
         payloads: "payloads of sbgp",
         entry: "parse_sbgp",
         ours: ffi::parse_sbgp,
+        needed: "sbgp_rows_needed",
+        ours_needed: ffi::sbgp_rows_needed,
         reference: sample_groups::parse_sbgp,
     };
     tables::compare(tally, random, &readers, s);

@@ -11,7 +11,7 @@ use crate::standalone::{Error, Result};
 pub const TYPES: [&[u8; 4]; 9] = [b"roll", b"prol", b"rap ", b"tele", b"sap ", b"rash", b"alst", b"abcd", b"seig"];
 const VERSIONS: [u8; 5] = [0, 1, 2, 3, 255];
 
-fn number(error: &Error) -> u32 {
+pub fn number(error: &Error) -> u32 {
     let Error::InvalidData(text) = error else { panic!("an error of another kind: {error}") };
     let known = [
         ("header < 12 bytes", 30),

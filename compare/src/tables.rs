@@ -39,6 +39,8 @@ pub struct Readers {
     pub payloads: &'static str,
     pub entry: &'static str,
     pub ours: fn(&Input, usize, usize) -> Answer<Table>,
+    pub needed: &'static str,
+    pub ours_needed: fn(&Input, usize) -> Answer<u64>,
     pub reference: fn(&[u8]) -> Result<SampleToGroup>,
 }
 
@@ -55,6 +57,8 @@ pub fn compare(tally: &mut Tally, random: &mut Random, readers: &Readers, s: &[u
     for numbers in [2 * rows, 2 * rows + 1 + random.below(5) as usize] {
         tally.same(entry, ours(&input, s.len(), numbers), expected.clone(), &shown(numbers));
     }
+    let count = expected.map(|(_, _, rows)| rows.len() as u64);
+    tally.same(readers.needed, (readers.ours_needed)(&input, s.len()), count, &shown(0));
     if let Ok(table) = &told {
         if rows > 0 {
             // 29 has no counterpart in the Rust: its rows say that one record is missing.
