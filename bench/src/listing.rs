@@ -1,0 +1,244 @@
+//! The cue listing: a film of a million samples beside the same listing by the Rust's calls, `listing cue_listing ours|rust|none`, and bodies made
+//! to be costly: `listing hostile NAME CALLS` lists one of them, `listing answer NAME` says its answer. A program of its own: a second caller of the
+//! Rust's functions in `bench` would change what the compiler makes of them there.
+
+use crate::{atom, sample_groups};
+use std::hint::black_box;
+use std::io::Cursor;
+
+unsafe extern "C" {
+    fn film_cue_listing(body: *const u8, len: usize, kind: u32, rows: *mut u32, rows_len: usize, listing: *mut u8, listing_len: usize, out: *mut u64) -> u32;
+}
+
+fn ours(body: &[u8], kind: &[u8; 4], rows: &mut [u32], listing: &mut [u8]) -> Result<[u64; 2], u32> {
+    let mut out = [0u64; 2];
+    let number = u32::from_be_bytes(*kind);
+    let status =
+        unsafe { film_cue_listing(body.as_ptr(), body.len(), number, rows.as_mut_ptr(), rows.len(), listing.as_mut_ptr(), listing.len(), out.as_mut_ptr()) };
+    if status == 0 { Ok(black_box(out)) } else { Err(status) }
+}
+
+fn atom_of(kind: &[u8; 4], body: &[u8]) -> Vec<u8> {
+    [&(body.len() as u32 + 8).to_be_bytes(), &kind[..], body].concat()
+}
+
+/// A csgp with the given codes of the index width (0: 4 bits, 2: 16 bits); counts and lengths have 32 bits.
+fn csgp(kind: &[u8; 4], code: u8, patterns: &[(u32, Vec<u16>)]) -> Vec<u8> {
+    let mut s = [[0, 0, 0, 0x3c | code], *kind, (patterns.len() as u32).to_be_bytes()].concat();
+    for (count, indices) in patterns {
+        s.extend([(indices.len() as u32).to_be_bytes(), count.to_be_bytes()].concat());
+    }
+    let indices: Vec<u16> = patterns.iter().flat_map(|(_, indices)| indices.clone()).collect();
+    match code {
+        0 => s.extend(indices.chunks(2).map(|pair| (pair[0] << 4 | pair.get(1).unwrap_or(&0)) as u8)),
+        _ => s.extend(indices.iter().flat_map(|i| i.to_be_bytes())),
+    }
+    s
+}
+
+/// An sgpd of version 1 whose entries have a length before each of them.
+fn sgpd(kind: &[u8; 4], entries: &[Vec<u8>]) -> Vec<u8> {
+    let mut s = [[1, 0, 0, 0], *kind, [0; 4], (entries.len() as u32).to_be_bytes()].concat();
+    s.extend(entries.iter().flat_map(|e| [&(e.len() as u32).to_be_bytes()[..], e].concat()));
+    s
+}
+
+fn body(table: &[u8], sgpd: &[u8]) -> Vec<u8> {
+    [atom_of(b"csgp", table), atom_of(b"sgpd", sgpd)].concat()
+}
+
+/// A million samples of type roll in a hundred patterns: most of one index, every tenth with one sample in a hundred picked out.
+fn million() -> Vec<u8> {
+    let pattern = |k: u16| {
+        let mut indices = vec![k % 4; if k % 10 == 0 { 100 } else { 1 }];
+        indices[0] = 1 + k % 3;
+        (10_000, indices)
+    };
+    let patterns: Vec<(u32, Vec<u16>)> = (0..100).map(pattern).collect();
+    body(&csgp(b"roll", 0, &patterns), &sgpd(b"roll", &[vec![0xff, 0xfe], vec![0, 3], vec![0xff, 0xfe]]))
+}
+
+fn put(out: &mut Vec<u8>, mut n: u64) {
+    while n >= 128 {
+        out.push(n as u8 | 128);
+        n /= 128;
+    }
+    out.push(n as u8);
+}
+
+/// The listing of a type roll by the Rust's calls: the walk, the tables, one decoding of each entry, and the rows joined by what they mean.
+fn by_rust(s: &[u8]) -> Vec<u8> {
+    let (mut table, mut sgpd) = (None, None);
+    atom::walk_children(&mut Cursor::new(s), Some(s.len() as u64), |r, h| {
+        match &h.fourcc {
+            b"csgp" => table = Some(sample_groups::parse_csgp(&atom::read_payload(r, h)?)?),
+            b"sgpd" => sgpd = Some(sample_groups::parse_sgpd(&atom::read_payload(r, h)?)?),
+            _ => {}
+        }
+        Ok(())
+    })
+    .unwrap();
+    let (table, sgpd) = (table.unwrap(), sgpd.unwrap());
+    let values: Vec<u64> = sgpd.entries.iter().map(|e| (sample_groups::decode_roll(&e.payload).unwrap().roll_distance as i64 + 32_768) as u64).collect();
+    let mut stretches: Vec<(u64, u64, u64)> = Vec::new();
+    for row in &table.entries {
+        let (kind, value) = match row.group_description_index as usize {
+            0 => (0, 0),
+            k => values.get(k - 1).map_or((1, 0), |v| (2, *v)),
+        };
+        match stretches.last_mut() {
+            Some((n, last, v)) if (*last, *v) == (kind, value) => *n += row.sample_count as u64,
+            _ => stretches.push((row.sample_count as u64, kind, value)),
+        }
+    }
+    let mut out = b"roll".to_vec();
+    put(&mut out, table.covered_samples());
+    for (n, kind, value) in stretches {
+        put(&mut out, n);
+        put(&mut out, kind);
+        if kind == 2 {
+            put(&mut out, value);
+        }
+    }
+    out
+}
+
+fn listed(side: &str) {
+    let s = black_box(million());
+    let mut rows = vec![0u32; 8192];
+    let mut listing = vec![0u8; 1 << 15];
+    match side {
+        "ours" => drop(ours(&s, b"roll", &mut rows, &mut listing).unwrap()),
+        "rust" => drop(black_box(by_rust(&s))),
+        // not counted: both give the same bytes
+        "same" => {
+            let [length, count] = ours(&s, b"roll", &mut rows, &mut listing).unwrap();
+            assert_eq!(listing[..length as usize], by_rust(&s));
+            println!("{length} bytes, {count} rows");
+        }
+        _ => {}
+    }
+    black_box((rows, listing));
+}
+
+/// What the program cue holds.
+const BODY: usize = 16_384;
+const ROWS: u32 = 2_048;
+
+/// So many equal entries, as long as the body allows, in turn over all rows; `odd`: the last byte of the last entry is another.
+fn in_turn(kind: &[u8; 4], entries: usize, front: &[u8], step: usize, odd: bool) -> Vec<u8> {
+    equal(kind, entries, &[(ROWS, (1..=entries as u16).collect())], front, step, odd)
+}
+
+/// The first of three equal entries once, then the other two in turn: no row has the index that its stretch began with.
+fn late(kind: &[u8; 4], front: &[u8], step: usize) -> Vec<u8> {
+    equal(kind, 3, &[(1, vec![1]), (ROWS - 1, vec![2, 3])], front, step, false)
+}
+
+fn equal(kind: &[u8; 4], entries: usize, patterns: &[(u32, Vec<u16>)], front: &[u8], step: usize, odd: bool) -> Vec<u8> {
+    let table = csgp(kind, 2, patterns);
+    let room = (BODY - table.len() - 16 - 16 - 4 * entries) / entries;
+    let length = front.len() + (room - front.len()) / step * step;
+    let mut entry = front.to_vec();
+    entry.resize(length, 0x11);
+    let mut all = vec![entry; entries];
+    if odd {
+        *all.last_mut().unwrap().last_mut().unwrap() ^= 1;
+    }
+    body(&table, &sgpd(kind, &all))
+}
+
+/// A pattern of a million indices, one of them another, over 4,000,000,000 samples; the two entries are alike or not.
+fn odd_one_out(alike: bool) -> Vec<u8> {
+    let mut indices = vec![1; 1_000_000];
+    indices[700_000] = 2;
+    body(&csgp(b"roll", 0, &[(4_000_000_000, indices)]), &sgpd(b"roll", &[vec![0, 1], vec![0, if alike { 1 } else { 2 }]]))
+}
+
+const HOSTILE: [&str; 15] = [
+    "raw-2",
+    "raw-2-unlike",
+    "raw-3",
+    "raw-5",
+    "raw-18",
+    "raw-3-late",
+    "rash-2",
+    "rash-5",
+    "alst-2",
+    "alst-5",
+    "alst-3-late",
+    "empty-4000",
+    "tele-3240",
+    "odd-of-million",
+    "odd-of-million-unlike",
+];
+
+fn hostile_body(name: &str) -> ([u8; 4], Vec<u8>) {
+    let raw = |entries, odd| (*b"abcd", in_turn(b"abcd", entries, &[], 1, odd));
+    // as many points as fit, and a trailer of 9 bytes
+    let rash = |entries: usize| {
+        let points = ((BODY - 60) / entries - 30) / 6;
+        (*b"rash", in_turn(b"rash", entries, &(points as u16).to_be_bytes(), 1, false))
+    };
+    let alst = |entries: usize| (*b"alst", in_turn(b"alst", entries, &[0, 3, 0, 1], 4, false));
+    // entries of their own lengths, of which the first and the last take turns
+    let jumps = |kind: &[u8; 4], entry: &[u8]| {
+        let entries = vec![entry.to_vec(); 16_200 / (4 + entry.len()).max(4)];
+        let last = entries.len().min(4000);
+        (*kind, body(&csgp(kind, 2, &[(ROWS, vec![1, last as u16])]), &sgpd(kind, &entries[..last])))
+    };
+    match name {
+        "raw-2" => raw(2, false),
+        "raw-2-unlike" => raw(2, true),
+        "raw-3" => raw(3, false),
+        "raw-5" => raw(5, false),
+        "raw-18" => raw(18, false),
+        "raw-3-late" => (*b"abcd", late(b"abcd", &[], 1)),
+        "alst-3-late" => (*b"alst", late(b"alst", &[0, 3, 0, 1], 4)),
+        "rash-2" => rash(2),
+        "rash-5" => rash(5),
+        "alst-2" => alst(2),
+        "alst-5" => alst(5),
+        "empty-4000" => jumps(b"abcd", &[]),
+        "tele-3240" => jumps(b"tele", &[0x80]),
+        "odd-of-million" => (*b"roll", odd_one_out(true)),
+        "odd-of-million-unlike" => (*b"roll", odd_one_out(false)),
+        _ => panic!("hostile what?"),
+    }
+}
+
+/// One of the bodies, listed so often.
+fn hostile(name: &str, calls: u32) {
+    let (kind, s) = black_box(hostile_body(name));
+    let cue = !name.starts_with("odd");
+    assert!(!cue || s.len() <= BODY, "{} bytes", s.len());
+    let mut rows = vec![0u32; if cue { 2 * ROWS as usize } else { 40_000 }];
+    let mut listing = vec![0u8; if cue { BODY } else { 1 << 20 }];
+    for _ in 0..calls {
+        drop(black_box(ours(&s, &kind, &mut rows, &mut listing)));
+    }
+    black_box((rows, listing));
+}
+
+/// The body's length and the answer, as two cells of a table.
+fn answer(name: &str) {
+    let (kind, s) = hostile_body(name);
+    let (mut rows, mut listing) = (vec![0u32; if name.starts_with("odd") { 40_000 } else { 2 * ROWS as usize }], vec![0u8; BODY.max(1 << 20)]);
+    let room = if name.starts_with("odd") { 1 << 20 } else { BODY };
+    match ours(&s, &kind, &mut rows, &mut listing[..room]) {
+        Ok([length, count]) => println!("{} | {count} rows, {length} bytes", s.len()),
+        Err(n) => println!("{} | refused {n}", s.len()),
+    }
+}
+
+pub fn main() {
+    let words: Vec<String> = std::env::args().skip(1).collect();
+    let words: Vec<&str> = words.iter().map(String::as_str).collect();
+    match words[..] {
+        ["cue_listing", side] => listed(side),
+        ["hostile"] => println!("{}", HOSTILE.join(" ")),
+        ["hostile", name, calls] => hostile(name, calls.parse().unwrap()),
+        ["answer", name] => answer(name),
+        _ => panic!("listing cue_listing ours|rust|none"),
+    }
+}
