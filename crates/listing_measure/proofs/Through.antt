@@ -19,6 +19,7 @@ use Rattle.listing_stretches.specs.Ahead.{bytesAhead, endAfter, Moves}
 use Rattle.listing_stretches.specs.Entered.{InHand, meaningBy, GivesBegun, begunWith}
 use Rattle.listing_stretches.specs.declared.Progress.{Progress}
 use Rattle.listing_stretches.proofs.Ahead.{listing-ahead}
+use Rattle.listing_stretches.proofs.Entering.{filled-means}
 use Rattle.listing_stretches.proofs.Repeats.{map-append}
 use Rattle.listing_measure.specs.Measured.{AllMean, Measures, meaningsBy, listingOf, GivesMeasuring, GivesEnd, GivesLength}
 use Rattle.listing_measure.specs.declared.Measuring.the-variants as measuring
@@ -32,7 +33,7 @@ map-length f (x ∷ l) = ap suc (map-length f l)
 
 -- nothing in hand has the meaning of index 0
 pub held-first : (t : ℕ) (s : List ℕ) {h : SgpdHead} → ReadWhole s h → (n : ℕ) → InHand t s (begunWith n 0 0 at.Outside)
-held-first t s w n = record { meant = gives-outside w 0 refl; known = has-outside w 0 t refl }
+held-first t s w n = record { meant = gives-outside w 0 refl; known = has-outside w 0 t refl; alike = filled-means (meaningBy t s) 0 refl }
 
 -- a listing by what it begins with
 pub listing-begins : (t : ℕ) (s : List ℕ) (l : List ℕ) → listing t (meaningsBy t s l) ≡ (typeBytes t ++ groups (length l)) ++ bytesAhead 0 (meaningBy t s 0) (meaningsBy t s l)

@@ -95,13 +95,13 @@ module _ (t : ℕ) (s : List ℕ) (p : Pattern) (from : Progress) (limit : ℕ) 
             (passed-over m p (k + r .count) (next .hand) mark at-run (p .count) limit q)
 
         pub within-next : {hand : Hand} {j : ℕ} {to : Mark} → Passes mark (next .hand) (k + r .count) size (p .count) limit hand j to
-            → Within j (record { hand = hand; meaning = next .meaning }) to
+            → Within j (record { hand = hand; meaning = next .meaning; memory = next .memory }) to
         within-next {hand} {j} {to} a =
             let q = rw same at a in
             let index = later-index mark (next .hand) (k + r .count) (length (p .indices)) (q .periods) hand (q .later) in
             let far : k + r .count + (j - (k + r .count)) ≡ j = omega (arith, q .sample) in
             record {
-              held = record { meant = rw index (e .held .meant); known = rw index (e .held .known) };
+              held = record { meant = rw index (e .held .meant); known = rw index (e .held .known); alike = rw index (e .held .alike) };
               passed = omega (arith, q .sample, q .within);
               moves =
                   rw far at

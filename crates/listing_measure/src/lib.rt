@@ -76,9 +76,11 @@ fn measure_pattern(
         match pass_periods(mark, hand, k + run.count, pattern.length, count, limit) {
             Passed::On(next, sample, to) => {
                 let meaning = entered.meaning;
+                let memory = entered.memory;
                 here = Progress {
                     hand: next,
                     meaning,
+                    memory,
                 };
                 k = sample;
                 mark = to;

@@ -21,8 +21,10 @@ use Rattle.listing_meanings.specs.declared.MeaningAt.{MeaningAt}
 use Rattle.listing_meanings.specs.declared.MeaningAt.the-variants as at
 use Rattle.listing_meanings.proofs.Found.{meaning-is, entries-are}
 use Rattle.listing_stretches.specs.Ahead.{bytesAhead, meaningOr, endAfter, Enters}
-use Rattle.listing_stretches.specs.Entered.{InHand, meaningBy, GivesEntered, GivesBegun, GivesClosed, PutsStretch, stretchLimit, joinedBy, begunWith}
+use Rattle.listing_stretches.specs.Entered.{InHand, meaningBy, GivesEntered, GivesBegun, GivesClosed, PutsStretch, stretchLimit, joinedBy, begunWith, withLike}
+use Rattle.listing_stretches.specs.Memory.{Remembered, filledWith, withIndex}
 use Rattle.listing_stretches.specs.declared.Hand.{Hand}
+use Rattle.listing_stretches.specs.declared.Memory.{Memory}
 use Rattle.listing_stretches.specs.declared.Progress.{Progress}
 use Rattle.listing_stretches.proofs.Ahead.{ahead-join, ahead-first, ahead-close, ahead-last, ahead-none}
 
@@ -31,6 +33,20 @@ stretch-some : (x : Stretch) → stretchBytes x ≡ [] → ⊥
 stretch-some x e =
     groups-some (x .samples) (groups (kind (x .meaning)) ++ fieldBytes (x .meaning))
     (sym (append-assoc (groups (x .samples)) (groups (kind (x .meaning))) (fieldBytes (x .meaning))) ∙ e)
+
+-- the memory of a new stretch, and with one index more
+module _ (m : ℕ → Meaning) {v : Meaning} (i : ℕ) (e : m i ≡ v) where
+  pub filled-means : Remembered m v (filledWith i)
+  filled-means = record { first = (e, e, e, e); second = (e, e, e, e); third = (e, e, e, e); fourth = (e, e, e, e) }
+
+  pub more-means : (r : Memory) → Remembered m v r → Remembered m v (withIndex r i)
+  more-means r h =
+      record {
+        first = (e, h .first .0, h .first .1, h .first .2);
+        second = (h .first .3, h .second .0, h .second .1, h .second .2);
+        third = (h .second .3, h .third .0, h .third .1, h .third .2);
+        fourth = (h .third .3, h .fourth .0, h .fourth .1, h .fourth .2);
+      }
 
 module _ (t : ℕ) (s : List ℕ) where
   -- the meaning of an index that has one
@@ -45,32 +61,39 @@ module _ (t : ℕ) (s : List ℕ) where
     means-by {i} g k = record { inside = g .inside; meaning = meaningBy t s i; given = meant-by g k }
 
     module _ (out : List ℕ) (p : Progress) (n i : ℕ) (some : 0 < n) (held : InHand t s p) (known : HasMeaning t s i) where
-      enter-join : meaningBy t s (p .hand .index) ≡ meaningBy t s i → GivesEntered t s out out p n i (joinedBy p n)
+      enter-join : (q : Memory) → Remembered (meaningBy t s) (meaningBy t s (p .hand .index)) q → meaningBy t s i ≡ meaningBy t s (p .hand .index)
+          → GivesEntered t s out out p n i (joinedBy (record { hand = p .hand; meaning = p .meaning; memory = q }) n)
       unfolding stored
-      enter-join e =
+      enter-join q alike e =
           record {
-            held = record { meant = held .meant; known = held .known };
+            held = record { meant = held .meant; known = held .known; alike = alike };
             written = [];
             output = refl;
             next = omega arith;
-            bytes = λ rest. rw (← e) (ahead-join (p .hand .samples) n (meaningBy t s (p .hand .index)) rest);
-            joins = λ h e'. (sym e, refl, omega arith);
+            bytes = λ rest. rw e (ahead-join (p .hand .samples) n (meaningBy t s (p .hand .index)) rest);
+            joins = λ h e'. (e, refl, omega arith);
             samples = omega arith;
             near = omega arith;
           }
 
       pub enter-same : p .hand .index ≡ i → GivesEntered t s out out p n i (joinedBy p n)
-      enter-same e = enter-join (ap (meaningBy t s) e)
+      enter-same e = enter-join (p .memory) (held .alike) (ap (meaningBy t s) (sym e))
+
+      -- an index that is remembered
+      pub enter-known : ((m : ℕ → Meaning) (v : Meaning) → Remembered m v (p .memory) → m i ≡ v) → GivesEntered t s out out p n i (joinedBy p n)
+      enter-known e = enter-join (p .memory) (held .alike) (e (meaningBy t s) (meaningBy t s (p .hand .index)) (held .alike))
 
       module _ {r : MeaningAt} (g : GivesMeaning s i r) where
-        pub enter-like : meantAt t s (p .meaning) ≡ meantAt t s r → GivesEntered t s out out p n i (joinedBy p n)
-        enter-like e = enter-join (given-inj (sym (meant-by (held .meant) (held .known)) ∙ e ∙ meant-by g known))
+        pub enter-like : meantAt t s (p .meaning) ≡ meantAt t s r → GivesEntered t s out out p n i (joinedBy (withLike p i) n)
+        enter-like e =
+            let same = given-inj (sym (meant-by g known) ∙ sym e ∙ meant-by (held .meant) (held .known)) in
+            enter-join (withIndex (p .memory) i) (more-means (meaningBy t s) i same (p .memory) (held .alike)) same
 
         pub enter-first : p .hand .samples ≡ 0 → GivesEntered t s out out p n i (begunWith (p .hand .at) n i r)
         unfolding stored
         enter-first e =
             record {
-              held = record { meant = g; known = known };
+              held = record { meant = g; known = known; alike = filled-means (meaningBy t s) i refl };
               written = [];
               output = refl;
               next = omega arith;
@@ -86,7 +109,7 @@ module _ (t : ℕ) (s : List ℕ) where
             let old = meaningBy t s (p .hand .index) in
             let put = q .puts old (meant-by (held .meant) (held .known)) in
             record {
-              held = record { meant = g; known = known };
+              held = record { meant = g; known = known; alike = filled-means (meaningBy t s) i refl };
               written = stretchBytes (record { samples = p .hand .samples; meaning = old });
               output = put .output;
               next = put .next;

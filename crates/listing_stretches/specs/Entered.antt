@@ -12,6 +12,7 @@ use Rattle.listing_meanings.specs.Meant.{meantAt, meaningIn, GivesMeaning, HasM
 use Rattle.listing_meanings.specs.declared.MeaningAt.{MeaningAt}
 use Rattle.listing_meanings.specs.declared.MeaningAt.the-variants as at
 use Rattle.listing_stretches.specs.Ahead.{bytesAhead, meaningOr}
+use Rattle.listing_stretches.specs.Memory.{Remembered, filledWith, withIndex}
 use Rattle.listing_stretches.specs.declared.Progress.{Progress}
 
 -- no lent output is longer
@@ -28,19 +29,24 @@ pub record PutsStretch (t : ℕ) (s : List ℕ) (samples : ℕ) (meaning : Meani
   pub near : next ≤ p + stretchLimit
 
 abbrev pub joinedBy : Progress → ℕ → Progress
-joinedBy p n = record { hand = record { at = p .hand .at; samples = p .hand .samples + n; index = p .hand .index }; meaning = p .meaning }
+joinedBy p n = record { hand = record { at = p .hand .at; samples = p .hand .samples + n; index = p .hand .index }; meaning = p .meaning; memory = p .memory }
 
 abbrev pub begunWith : ℕ → ℕ → ℕ → MeaningAt → Progress
-begunWith at n i meaning = record { hand = record { at = at; samples = n; index = i }; meaning = meaning }
+begunWith at n i meaning = record { hand = record { at = at; samples = n; index = i }; meaning = meaning; memory = filledWith i }
 
--- what is in hand has a meaning, and it is told
-pub record InHand (t : ℕ) (s : List ℕ) (p : Progress) : Type 0 where
-  pub meant : GivesMeaning s (p .hand .index) (p .meaning)
-  pub known : HasMeaning t s (p .hand .index)
+-- an index found alike with the stretch in hand is remembered
+abbrev pub withLike : Progress → ℕ → Progress
+withLike p i = record { hand = p .hand; meaning = p .meaning; memory = withIndex (p .memory) i }
 
 -- the meaning of an index that has one
 abbrev pub meaningBy : ℕ → List ℕ → ℕ → Meaning
 meaningBy t s i = meaningOr (meaningIn t s i)
+
+-- what is in hand has a meaning, it is told, and the indices that are remembered mean the same
+pub record InHand (t : ℕ) (s : List ℕ) (p : Progress) : Type 0 where
+  pub meant : GivesMeaning s (p .hand .index) (p .meaning)
+  pub known : HasMeaning t s (p .hand .index)
+  pub alike : Remembered (meaningBy t s) (meaningBy t s (p .hand .index)) (p .memory)
 
 -- n samples of index i, entered into p, leave r in hand. Where nothing was stored and a stretch was in hand, they joined it
 pub record GivesEntered (t : ℕ) (s before after : List ℕ) (p : Progress) (n i : ℕ) (r : Progress) : Type 0 where

@@ -1,3 +1,4 @@
 pub mod Ahead
 pub mod Entered
+pub mod Memory
 pub mod Passed

@@ -1,7 +1,8 @@
 // What a listing begins and ends with.
-use super::Hand;
 use super::Progress;
+use super::enter::begun;
 use super::put_stretch;
+use base_ids::DescriptionIndex;
 use listing_meanings::MeaningAt;
 use listing_numbers::put_number;
 use listing_numbers::put_type;
@@ -16,14 +17,7 @@ pub fn begin_listing(grouping_type: u32, covered: u64, out: &mut [u8]) -> Progre
 {
     let behind_type = put_type(out, 0, grouping_type);
     let at = put_number(out, behind_type, covered);
-    Progress {
-        hand: Hand {
-            at,
-            samples: 0,
-            index: 0,
-        },
-        meaning: MeaningAt::Outside,
-    }
+    begun(at, 0, DescriptionIndex(0), MeaningAt::Outside)
 }
 
 // The stretch in hand behind the last sample, if there is one.

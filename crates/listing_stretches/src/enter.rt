@@ -1,6 +1,10 @@
 // Runs of samples entered one after the other: each joins the stretch in hand, or that one is closed and another begins.
+use super::Four;
 use super::Hand;
+use super::Memory;
 use super::Progress;
+use super::recall::remember;
+use super::recall::remembers;
 use base_ids::DescriptionIndex;
 use base_ids::SampleCount;
 use group_entries::layout_of;
@@ -51,6 +55,7 @@ fn joined(progress: Progress, count: SampleCount) -> Progress
 {
     let hand = progress.hand;
     let meaning = progress.meaning;
+    let memory = progress.memory;
     Progress {
         hand: Hand {
             at: hand.at,
@@ -58,13 +63,20 @@ fn joined(progress: Progress, count: SampleCount) -> Progress
             index: hand.index,
         },
         meaning,
+        memory,
     }
 }
 
-// A new stretch in hand.
-fn begun(at: usize, count: SampleCount, index: DescriptionIndex, meaning: MeaningAt) -> Progress
+// A new stretch in hand: its first index is all that is remembered.
+pub fn begun(at: usize, count: SampleCount, index: DescriptionIndex, meaning: MeaningAt) -> Progress
     ensures { λ r. ⌜ r ≡ begunWith at count (index .0) meaning ⌝ }
 {
+    let four = Four {
+        a: index.0,
+        b: index.0,
+        c: index.0,
+        d: index.0,
+    };
     Progress {
         hand: Hand {
             at,
@@ -72,10 +84,16 @@ fn begun(at: usize, count: SampleCount, index: DescriptionIndex, meaning: Meanin
             index: index.0,
         },
         meaning,
+        memory: Memory {
+            first: four,
+            second: four,
+            third: four,
+            fourth: four,
+        },
     }
 }
 
-// Some samples of one index: equal indices are like without looking.
+// Some samples of one index: equal indices, and those that were found alike, are like without looking.
 pub fn enter_run(
     grouping_type: u32,
     s: &[u8],
@@ -94,13 +112,16 @@ pub fn enter_run(
     if hand.index == index.0 {
         return joined(progress, count);
     }
+    if remembers(progress.memory, index) {
+        return joined(progress, count);
+    }
     let meaning = meaning_at(s, head, marks, index);
     let current = progress.meaning;
     if hand.samples == 0 {
         return begun(hand.at, count, index, meaning);
     }
     if like(grouping_type, s, current, meaning) {
-        return joined(progress, count);
+        return joined(remember(progress, index), count);
     }
     let at = put_stretch(grouping_type, s, hand.samples, current, out, hand.at);
     begun(at, count, index, meaning)

@@ -3,6 +3,7 @@
 mod ends;
 mod enter;
 mod periods;
+mod recall;
 
 use base_ids::SampleCount;
 pub use ends::begin_listing;
@@ -19,10 +20,27 @@ pub struct Hand {
     pub index: u32,
 }
 
-// What is in hand, and what its index means.
+// Indices, the newest first.
+pub struct Four {
+    pub a: u32,
+    pub b: u32,
+    pub c: u32,
+    pub d: u32,
+}
+
+// The last sixteen indices that were found to mean what the stretch in hand means, the newest first; where there are fewer, its first one.
+pub struct Memory {
+    pub first: Four,
+    pub second: Four,
+    pub third: Four,
+    pub fourth: Four,
+}
+
+// What is in hand, what its index means, and other indices that mean the same.
 pub struct Progress {
     pub hand: Hand,
     pub meaning: MeaningAt,
+    pub memory: Memory,
 }
 
 // What was in hand at a sample of a pattern.

@@ -84,26 +84,36 @@ enum-known-next c = search needs
 
 loop-less : tie.Need-loop-less Inv-loop μ-loop
 loop-less c =
-    let at-loop = c .before .before .before .before .before .before .before .before .before .before .before .before .before .before in
+    let at-passed = c .before .before in
+    let at-entered = at-passed .before .before .before .before .before .before .before .before .before in
+    let at-run = at-entered .before .before in
+    let at-loop = at-run .before .before in
     let start = at-loop .before .before .before .before .before in
     let a = start .args in
     let p = patternIn (a .table-s .now) (a .pattern) in
     let w = at-loop .loop .inv .0 in
-    let passed = rw (c .before .next .given .1) at (c .before .before .before .pass-periods .ensures) in
-    let on = passes-on (a .grouping-type) (a .s .now) p (a .progress) (a .limit) (at-loop .loop .k) (at-loop .loop .here) (at-loop .loop .mark) w (c .before .before .before .before .before .before .before .before .before .before .before .before .run-at .result) (c .before .before .before .before .before .before .before .before .before .before .before .before .run-at .ensures) _ _ (c .before .before .before .before .before .before .before .before .before .before .enter-run .result) (c .before .before .before .before .before .before .before .before .before .before .enter-run .ensures) _ (sym (indices-length (a .pattern .width) (a .table-s .now) (a .pattern .length) (a .pattern .indices))) passed in
-    omega (arith, on, c .before .before .before .before .before .before .before .before .before .before .before .before .before .loop-test .taken)
+    let run = at-run .run-at in
+    let entered = at-entered .enter-run in
+    let passed = rw (at-passed .next .given .1) at (at-passed .before .before .pass-periods .ensures) in
+    let size = sym (indices-length (a .pattern .width) (a .table-s .now) (a .pattern .length) (a .pattern .indices)) in
+    let on = passes-on (a .grouping-type) (a .s .now) p (a .progress) (a .limit) (at-loop .loop .k) (at-loop .loop .here) (at-loop .loop .mark) w (run .result) (run .ensures) _ _ (entered .result) (entered .ensures) _ size passed in
+    omega (arith, on, at-run .before .loop-test .taken)
 
 loop-again : tie.Need-loop-again Inv-loop μ-loop
 loop-again c =
-    let at-loop = c .before .before .before .before .before .before .before .before .before .before .before .before .before .before in
+    let at-passed = c .before .before in
+    let at-entered = at-passed .before .before .before .before .before .before .before .before .before in
+    let at-run = at-entered .before .before in
+    let at-loop = at-run .before .before in
     let start = at-loop .before .before .before .before .before in
     let a = start .args in
     let p = patternIn (a .table-s .now) (a .pattern) in
     let w = at-loop .loop .inv .0 in
-    let passed = rw (c .before .next .given .1) at (c .before .before .before .pass-periods .ensures) in (
-      within-next (a .grouping-type) (a .s .now) p (a .progress) (a .limit) (at-loop .loop .k) (at-loop .loop .here) (at-loop .loop .mark) w (c .before .before .before .before .before .before .before .before .before .before .before .before .run-at .result) (c .before .before .before .before .before .before .before .before .before .before .before .before .run-at .ensures) _ _ (c .before .before .before .before .before .before .before .before .before .before .enter-run .result) (c .before .before .before .before .before .before .before .before .before .before .enter-run .ensures) _ (sym (indices-length (a .pattern .width) (a .table-s .now) (a .pattern .length) (a .pattern .indices))) passed,
-      c .before .before .before .before .before .before .before .before .before .before .enter-run .kept .1 .1 .1 .1 .0 ∙ at-loop .loop .inv .1,
-    )
+    let run = at-run .run-at in
+    let entered = at-entered .enter-run in
+    let passed = rw (at-passed .next .given .1) at (at-passed .before .before .pass-periods .ensures) in
+    let size = sym (indices-length (a .pattern .width) (a .table-s .now) (a .pattern .length) (a .pattern .indices)) in
+    (within-next (a .grouping-type) (a .s .now) p (a .progress) (a .limit) (at-loop .loop .k) (at-loop .loop .here) (at-loop .loop .mark) w (run .result) (run .ensures) _ _ (entered .result) (entered .ensures) _ size passed, entered .kept .1 .1 .1 .1 .0 ∙ at-loop .loop .inv .1)
 
 enum-told : tie.Need-enum-told Inv-loop μ-loop
 enum-told c = search needs

@@ -1,7 +1,6 @@
-use mathlib.Core.Path.{_≡_, refl, _∙_}
+-- The type, the number of samples, and nothing in hand behind them.
 use native.Mathlib.Omega.{arith}
 use borrow.Author.Needs.{needs}
-use Rattle.listing_numbers.proofs.Stores.{puts-then, number-near-64}
 use Rattle.listing_stretches.proofs.Entering.{begins}
 use Rattle.listing_stretches.proofs.ends.begin_listing.Statement.{statement}
 use Rattle.listing_stretches.proofs.ends.begin_listing.Tie as tie
@@ -12,15 +11,18 @@ put-type-requires c κs = search needs
 put-number-requires : tie.Need-put-number-requires
 put-number-requires c κs = search needs
 
+begun-requires : tie.Need-begun-requires
+begun-requires c κs = search needs
+
 same-length : tie.Need-same-length
 same-length c = search needs
 
 returns : tie.Need-returns
 returns c =
-    let typed = c .before .before .before .before .before .before .put-type .ensures in
-    let numbered = c .before .before .put-number .ensures in
-    let start = c .before .before .before .before .before .before .before .before .before in
-    begins _ _ _ _ _ _ _ typed numbered (omega (arith, start .fits .covered))
+    let at-number = c .before .before .before in
+    let at-type = at-number .before .before .before .before in
+    let start = at-type .before .before .before in
+    rw (c .begun .ensures) (begins _ _ _ _ _ _ _ (at-type .put-type .ensures) (at-number .put-number .ensures) (omega (arith, start .fits .covered)))
 
 pub begin-listing-spec : {M : Type 1} → statement M
-begin-listing-spec = tie.close (tie.spec put-type-requires put-number-requires same-length returns)
+begin-listing-spec = tie.close (tie.spec put-type-requires put-number-requires begun-requires same-length returns)

@@ -1,6 +1,6 @@
--- The four ways of `Entering`: the same index, the first stretch, a like meaning, another meaning.
+-- The five ways of `Entering`: the same index, one that is remembered, the first stretch, a like meaning, another meaning.
 use borrow.Author.Needs.{needs}
-use Rattle.listing_stretches.proofs.Entering.{means-by, enter-same, enter-first, enter-like, enter-other}
+use Rattle.listing_stretches.proofs.Entering.{means-by, enter-same, enter-known, enter-first, enter-like, enter-other}
 use native.Mathlib.Omega.{arith}
 use Rattle.listing_stretches.proofs.enter.enter_run.Statement.{statement}
 use Rattle.listing_stretches.proofs.enter.enter_run.Tie as tie
@@ -15,39 +15,59 @@ returns c =
     let w = start .pre .0 .0 in
     rw (c .joined .ensures) (enter-same _ _ w _ (a .progress) (a .count) (a .index .0) (start .pre .1 .1) (start .pre .1 .0) (start .pre .0 .2) (c .before .if1 .taken))
 
+remembers-requires : tie.Need-remembers-requires
+remembers-requires c κs = search needs
+
+joined-requires-2 : tie.Need-joined-requires-2
+joined-requires-2 c κs = search needs
+
+returns-2 : tie.Need-returns-2
+returns-2 c =
+    let start = c .before .before .before .before .before .before .before .before .before in
+    let a = start .args in
+    let w = start .pre .0 .0 in
+    rw (c .joined2 .ensures) (enter-known _ _ w _ (a .progress) (a .count) (a .index .0) (start .pre .1 .1) (start .pre .1 .0) (start .pre .0 .2) (c .before .before .remembers .ensures (c .before .if2 .taken)))
+
 meaning-at-requires : tie.Need-meaning-at-requires
 meaning-at-requires c κs = search needs
 
 begun-requires : tie.Need-begun-requires
 begun-requires c κs = search needs
 
-returns-2 : tie.Need-returns-2
-returns-2 c =
-    let start = c .before .before .before .before .before .before .before .before .before .before in
-    let a = start .args in
-    let w = start .pre .0 .0 in
-    rw (c .begun .ensures) (enter-first _ _ w _ (a .progress) (a .count) (a .index .0) (start .pre .1 .1) (start .pre .1 .0) (start .pre .0 .2) (c .before .before .before .meaning-at .ensures) (c .before .if2 .taken))
-
-like-requires : tie.Need-like-requires
-like-requires c κs =
-    let start = c .before .before .before .before .before .before .before .before .before in
-    let a = start .args in
-    let w = start .pre .0 .0 in
-    (w .head .short, means-by _ _ w (start .pre .1 .0 .meant) (start .pre .1 .0 .known), means-by _ _ w (c .before .before .meaning-at .ensures) (start .pre .0 .2))
-
-joined-requires-2 : tie.Need-joined-requires-2
-joined-requires-2 c κs = search needs
-
 returns-3 : tie.Need-returns-3
 returns-3 c =
     let start = c .before .before .before .before .before .before .before .before .before .before .before .before in
     let a = start .args in
     let w = start .pre .0 .0 in
-    rw (c .joined2 .ensures) (enter-like _ _ w _ (a .progress) (a .count) (a .index .0) (start .pre .1 .1) (start .pre .1 .0) (start .pre .0 .2) (c .before .before .before .before .before .meaning-at .ensures) (c .before .before .like .ensures .same (c .before .if3 .taken)))
+    rw (c .begun .ensures) (enter-first _ _ w _ (a .progress) (a .count) (a .index .0) (start .pre .1 .1) (start .pre .1 .0) (start .pre .0 .2) (c .before .before .before .meaning-at .ensures) (c .before .if3 .taken))
+
+like-requires : tie.Need-like-requires
+like-requires c κs =
+    let start = c .before .before .before .before .before .before .before .before .before .before .before in
+    let a = start .args in
+    let w = start .pre .0 .0 in
+    (w .head .short, means-by _ _ w (start .pre .1 .0 .meant) (start .pre .1 .0 .known), means-by _ _ w (c .before .before .meaning-at .ensures) (start .pre .0 .2))
+
+remember-requires : tie.Need-remember-requires
+remember-requires c κs = search needs
+
+joined-requires-3 : tie.Need-joined-requires-3
+joined-requires-3 c κs =
+    let start = c .before .before .before .before .before .before .before .before .before .before .before .before .before .before in
+    rw (c .remember .ensures) (start .pre .1 .2)
+
+returns-4 : tie.Need-returns-4
+returns-4 c =
+    let at-like = c .before .before .before in
+    let at-meaning = at-like .before .before .before in
+    let start = at-meaning .before .before .before .before .before .before .before .before .before in
+    let a = start .args in
+    let w = start .pre .0 .0 in
+    rw (c .joined3 .ensures, c .before .remember .ensures) (enter-like _ _ w _ (a .progress) (a .count) (a .index .0) (start .pre .1 .1) (start .pre .1 .0) (start .pre .0 .2) (at-meaning .meaning-at .ensures) (at-like .like .ensures .same (c .before .before .if4 .taken)))
 
 put-stretch-requires : tie.Need-put-stretch-requires
 put-stretch-requires c κs =
-    let start = c .before .before .before .before .before .before .before .before .before .before .before .before in
+    let start = c .before .before .before .before .before .before .before .before .before .before .before .before .before .before in
     let a = start .args in
     let w = start .pre .0 .0 in
     (w .head .short, means-by _ _ w (start .pre .1 .0 .meant) (start .pre .1 .0 .known), start .pre .1 .3)
@@ -58,14 +78,16 @@ begun-requires-2 c κs = search needs
 same-length : tie.Need-same-length
 same-length c = search needs
 
-returns-4 : tie.Need-returns-4
-returns-4 c =
-    let start = c .before .before .before .before .before .before .before .before .before .before .before .before .before .before .before .before in
+returns-5 : tie.Need-returns-5
+returns-5 c =
+    let at-like = c .before .before .before .before .before .before in
+    let at-meaning = at-like .before .before .before in
+    let start = at-meaning .before .before .before .before .before .before .before .before .before in
     let a = start .args in
     let w = start .pre .0 .0 in
+    let unlike = at-like .like .ensures .different (c .before .before .before .before .before .if4 .left) in
     rw (c .begun2 .ensures)
-    (enter-other _ _ w _ (a .progress) (a .count) (a .index .0) (start .pre .1 .1) (start .pre .1 .0) (start .pre .0 .2) (c .before .before .before .before .before .before .before .before .before .meaning-at .ensures)
-    (c .before .before .before .before .before .before .like .ensures .different (c .before .before .before .before .before .if3 .left)) (omega (arith, c .before .before .before .before .before .before .before .if2 .left)) _ _ (c .before .before .before .put-stretch .ensures))
+    (enter-other _ _ w _ (a .progress) (a .count) (a .index .0) (start .pre .1 .1) (start .pre .1 .0) (start .pre .0 .2) (at-meaning .meaning-at .ensures) unlike (omega (arith, c .before .before .before .before .before .before .before .if3 .left)) _ _ (c .before .before .before .put-stretch .ensures))
 
 pub enter-run-spec : {M : Type 1} → statement M
 enter-run-spec =
@@ -73,13 +95,17 @@ enter-run-spec =
     (tie.spec
     joined-requires
     returns
+    remembers-requires
+    joined-requires-2
+    returns-2
     meaning-at-requires
     begun-requires
-    returns-2
-    like-requires
-    joined-requires-2
     returns-3
+    like-requires
+    remember-requires
+    joined-requires-3
+    returns-4
     put-stretch-requires
     begun-requires-2
     same-length
-    returns-4)
+    returns-5)
