@@ -22,7 +22,7 @@ fn atom_of(kind: &[u8; 4], body: &[u8]) -> Vec<u8> {
     [&(body.len() as u32 + 8).to_be_bytes(), &kind[..], body].concat()
 }
 
-/// A csgp with the given codes of the index width (0: 4 bits, 2: 16 bits); counts and lengths have 32 bits.
+/// A csgp with the given code of the index width (0: 4 bits, 1: 8 bits, 2: 16 bits); counts and lengths have 32 bits.
 fn csgp(kind: &[u8; 4], code: u8, patterns: &[(u32, Vec<u16>)]) -> Vec<u8> {
     let mut s = [[0, 0, 0, 0x3c | code], *kind, (patterns.len() as u32).to_be_bytes()].concat();
     for (count, indices) in patterns {
@@ -30,10 +30,15 @@ fn csgp(kind: &[u8; 4], code: u8, patterns: &[(u32, Vec<u16>)]) -> Vec<u8> {
     }
     let indices: Vec<u16> = patterns.iter().flat_map(|(_, indices)| indices.clone()).collect();
     match code {
-        0 => s.extend(indices.chunks(2).map(|pair| (pair[0] << 4 | pair.get(1).unwrap_or(&0)) as u8)),
+        0 => s.extend(nibbles(&indices)),
+        1 => s.extend(indices.iter().map(|i| *i as u8)),
         _ => s.extend(indices.iter().flat_map(|i| i.to_be_bytes())),
     }
     s
+}
+
+fn nibbles(indices: &[u16]) -> Vec<u8> {
+    indices.chunks(2).map(|pair| (pair[0] << 4 | pair.get(1).unwrap_or(&0)) as u8).collect()
 }
 
 /// An sgpd of version 1 whose entries have a length before each of them.
@@ -130,13 +135,19 @@ fn in_turn(kind: &[u8; 4], entries: usize, front: &[u8], step: usize, odd: bool)
     equal(kind, entries, &[(ROWS, (1..=entries as u16).collect())], front, step, odd)
 }
 
-/// The first of three equal entries once, then the other two in turn: no row has the index that its stretch began with.
-fn late(kind: &[u8; 4], front: &[u8], step: usize) -> Vec<u8> {
-    equal(kind, 3, &[(1, vec![1]), (ROWS - 1, vec![2, 3])], front, step, false)
+/// The first of equal entries once, then the others in turn: no row has the index that its stretch began with.
+fn late(kind: &[u8; 4], entries: u16, front: &[u8], step: usize) -> Vec<u8> {
+    equal(kind, entries as usize, &[(1, vec![1]), (ROWS - 1, (2..=entries).collect())], front, step, false)
+}
+
+/// The same in one pattern of a third of the rows, so that measuring passes over no period of it.
+fn written_out(kind: &[u8; 4], entries: u16, front: &[u8], step: usize) -> Vec<u8> {
+    let turns = (0..ROWS as u16 / 3).map(|k| 2 + k % (entries - 1));
+    equal(kind, entries as usize, &[(ROWS, [1].into_iter().chain(turns).collect())], front, step, false)
 }
 
 fn equal(kind: &[u8; 4], entries: usize, patterns: &[(u32, Vec<u16>)], front: &[u8], step: usize, odd: bool) -> Vec<u8> {
-    let table = csgp(kind, 2, patterns);
+    let table = csgp(kind, if entries < 16 { 0 } else { 1 }, patterns);
     let room = (BODY - table.len() - 16 - 16 - 4 * entries) / entries;
     let length = front.len() + (room - front.len()) / step * step;
     let mut entry = front.to_vec();
@@ -155,32 +166,63 @@ fn odd_one_out(alike: bool) -> Vec<u8> {
     body(&csgp(b"roll", 0, &[(4_000_000_000, indices)]), &sgpd(b"roll", &[vec![0, 1], vec![0, if alike { 1 } else { 2 }]]))
 }
 
-const HOSTILE: [&str; 15] = [
+/// Like entries with lengths of their own, two from each sixteenth of them, farthest behind its landmark: each row looks its entry up.
+fn far(kind: &[u8; 4], entry: &[u8]) -> Vec<u8> {
+    let count = (BODY - 1_500) / (4 + entry.len());
+    let apart = count.div_ceil(16);
+    let turns = (0..(ROWS as usize + 1) / 3).map(|k| ((k % 16 + 1) * apart - k / 16 % 2).min(count - k % 2) as u16).collect();
+    body(&csgp(kind, 2, &[(ROWS, turns)]), &sgpd(kind, &vec![entry.to_vec(); count]))
+}
+
+/// As many patterns of one sample as fit, five after the other with one index, of 8 equal entries.
+fn short_patterns(kind: &[u8; 4]) -> Vec<u8> {
+    let count = 5 * ROWS as u16 - 4;
+    let indices: Vec<u16> = (0..count).map(|k| 1 + k / 5 % 8).collect();
+    let table = [&[0, 0, 0, 0], &kind[..], &(count as u32).to_be_bytes(), &vec![0x11; count as usize][..], &nibbles(&indices)].concat();
+    body(&table, &sgpd(kind, &vec![vec![0; (BODY - table.len() - 64) / 8]; 8]))
+}
+
+const HOSTILE: [&str; 29] = [
     "raw-2",
     "raw-2-unlike",
     "raw-3",
     "raw-5",
     "raw-18",
     "raw-3-late",
+    "raw-17-late",
+    "raw-18-late",
+    "raw-17-out",
+    "raw-18-out",
+    "raw-19-out",
+    "raw-24-out",
     "rash-2",
     "rash-5",
+    "rash-18-out",
     "alst-2",
     "alst-5",
     "alst-3-late",
+    "alst-18-late",
+    "alst-18-out",
     "empty-4000",
     "tele-3240",
+    "empty-far",
+    "tele-far",
+    "sap-far",
+    "rap-far",
+    "patterns-10236",
     "odd-of-million",
     "odd-of-million-unlike",
 ];
 
 fn hostile_body(name: &str) -> ([u8; 4], Vec<u8>) {
     let raw = |entries, odd| (*b"abcd", in_turn(b"abcd", entries, &[], 1, odd));
+    let raw_late = |entries| (*b"abcd", late(b"abcd", entries, &[], 1));
+    let raw_out = |entries| (*b"abcd", written_out(b"abcd", entries, &[], 1));
     // as many points as fit, and a trailer of 9 bytes
-    let rash = |entries: usize| {
-        let points = ((BODY - 60) / entries - 30) / 6;
-        (*b"rash", in_turn(b"rash", entries, &(points as u16).to_be_bytes(), 1, false))
-    };
-    let alst = |entries: usize| (*b"alst", in_turn(b"alst", entries, &[0, 3, 0, 1], 4, false));
+    let points = |room: usize, entries: usize| (((room - 60) / entries - 30) as u16 / 6).to_be_bytes();
+    let rash = |entries: usize| (*b"rash", in_turn(b"rash", entries, &points(BODY, entries), 1, false));
+    let offsets = [0, 3, 0, 1];
+    let alst = |entries: usize| (*b"alst", in_turn(b"alst", entries, &offsets, 4, false));
     // entries of their own lengths, of which the first and the last take turns
     let jumps = |kind: &[u8; 4], entry: &[u8]| {
         let entries = vec![entry.to_vec(); 16_200 / (4 + entry.len()).max(4)];
@@ -193,14 +235,28 @@ fn hostile_body(name: &str) -> ([u8; 4], Vec<u8>) {
         "raw-3" => raw(3, false),
         "raw-5" => raw(5, false),
         "raw-18" => raw(18, false),
-        "raw-3-late" => (*b"abcd", late(b"abcd", &[], 1)),
-        "alst-3-late" => (*b"alst", late(b"alst", &[0, 3, 0, 1], 4)),
+        "raw-3-late" => raw_late(3),
+        "raw-17-late" => raw_late(17),
+        "raw-18-late" => raw_late(18),
+        "raw-17-out" => raw_out(17),
+        "raw-18-out" => raw_out(18),
+        "raw-19-out" => raw_out(19),
+        "raw-24-out" => raw_out(24),
         "rash-2" => rash(2),
         "rash-5" => rash(5),
+        "rash-18-out" => (*b"rash", written_out(b"rash", 18, &points(BODY - 700, 18), 1)),
         "alst-2" => alst(2),
         "alst-5" => alst(5),
+        "alst-3-late" => (*b"alst", late(b"alst", 3, &offsets, 4)),
+        "alst-18-late" => (*b"alst", late(b"alst", 18, &offsets, 4)),
+        "alst-18-out" => (*b"alst", written_out(b"alst", 18, &offsets, 4)),
         "empty-4000" => jumps(b"abcd", &[]),
         "tele-3240" => jumps(b"tele", &[0x80]),
+        "empty-far" => (*b"abcd", far(b"abcd", &[])),
+        "tele-far" => (*b"tele", far(b"tele", &[0x80])),
+        "sap-far" => (*b"sap ", far(b"sap ", &[0x80])),
+        "rap-far" => (*b"rap ", far(b"rap ", &[0x80])),
+        "patterns-10236" => (*b"abcd", short_patterns(b"abcd")),
         "odd-of-million" => (*b"roll", odd_one_out(true)),
         "odd-of-million-unlike" => (*b"roll", odd_one_out(false)),
         _ => panic!("hostile what?"),

@@ -26,11 +26,15 @@ fn one_of(four: Four, index: DescriptionIndex) -> bool
     four.d == index.0
 }
 
-// Whether an index is remembered: then it means what the others mean.
+// Whether an index is remembered: then it means what the others mean. Where the newest two are one, none was found alike yet: all are the stretch's first.
 pub fn remembers(memory: Memory, index: DescriptionIndex) -> bool
     ensures { λ r. ⌜ (r ≡ true → (m : ℕ → Meaning) (v : Meaning) → Remembered m v memory → m (index .0) ≡ v) ⌝ }
 {
-    if one_of(memory.first, index) {
+    let first = memory.first;
+    if first.a == first.b {
+        return false;
+    }
+    if one_of(first, index) {
         return true;
     }
     if one_of(memory.second, index) {
