@@ -101,7 +101,10 @@ fn main() {
     tell(b"the number behind the rows", rows[4] == 7);
     let mut kept = [7u32; 4];
     let mut short = [7u8; 11];
-    tell(b"no room", cue_refusal(starred, &mut kept, &mut short) == 54);
+    tell(
+        b"no room",
+        cue_refusal(starred, &mut kept, &mut short) == 54,
+    );
     tell(b"its rows", kept[0] == 7);
     tell(b"its bytes", short[0] == 7);
     let mut none = [7u8; 3];
