@@ -10,14 +10,14 @@ use Rattle.base_fields.specs.Span.{Span}
 use Rattle.test_starred.specs.Case.{Case, gives}
 
 -- version 0, type "abcd", n entries in the bytes behind
-abbrev shared : ℕ → List ℕ → List ℕ
+abbrev pub shared : ℕ → List ℕ → List ℕ
 shared n body = 0 ∷ 0 ∷ 0 ∷ 0 ∷ 0x61 ∷ 0x62 ∷ 0x63 ∷ 0x64 ∷ 0 ∷ 0 ∷ 0 ∷ n ∷ body
 
-abbrev span : ℕ → ℕ → Span
+abbrev pub span : ℕ → ℕ → Span
 span p n = record { place = p; size = n }
 
 -- a rash of one point: count, share 7, maximum 8, minimum 9, and a priority if there is room for it
-abbrev onePoint : List ℕ → List ℕ
+abbrev pub onePoint : List ℕ → List ℕ
 onePoint priority = 0 ∷ 1 ∷ 0 ∷ 7 ∷ 0 ∷ 0 ∷ 0 ∷ 8 ∷ 0 ∷ 0 ∷ 0 ∷ 9 ∷ priority
 
 abbrev pub descriptions : List Case

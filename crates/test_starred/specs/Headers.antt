@@ -10,21 +10,21 @@ use Rattle.base_fields.specs.Span.{Span}
 use Rattle.test_starred.specs.Case.{Case, gives}
 
 -- "free"
-abbrev free : List ℕ
+abbrev pub free : List ℕ
 free = 0x66 ∷ 0x72 ∷ 0x65 ∷ 0x65 ∷ []
 
-abbrev freeType : ℕ
+abbrev pub freeType : ℕ
 freeType = 0x66726565
 
 -- an atom of a 32-bit size below 256
-abbrev sized : ℕ → List ℕ
+abbrev pub sized : ℕ → List ℕ
 sized n = 0 ∷ 0 ∷ 0 ∷ n ∷ free
 
 -- an atom of an extended size
-abbrev extended : List ℕ → List ℕ
+abbrev pub extended : List ℕ → List ℕ
 extended size = sized 1 ++ size
 
-abbrev largest : List ℕ
+abbrev pub largest : List ℕ
 largest = replicate 8 255
 
 abbrev pub headers : List Case

@@ -8,26 +8,26 @@ use Rattle.table_csgp.specs.Table.{parseCsgp}
 use Rattle.test_starred.specs.Case.{Case, gives}
 
 -- version and flags 0, and the type "rap "
-abbrev front : List ℕ
+abbrev pub front : List ℕ
 front = 0 ∷ 0 ∷ 0 ∷ 0 ∷ 0x72 ∷ 0x61 ∷ 0x70 ∷ 0x20 ∷ []
 
-abbrev u32 : ℕ → List ℕ
+abbrev pub u32 : ℕ → List ℕ
 u32 n = 0 ∷ 0 ∷ 0 ∷ n ∷ []
 
-abbrev row : ℕ → ℕ → Row
+abbrev pub row : ℕ → ℕ → Row
 row n i = record { count = n; index = i }
 
-abbrev table : List Row → Answer Table
+abbrev pub table : List Row → Answer Table
 table rows = given (record { groupingType = 0x72617020; parameter = 0; rows = rows })
 
-abbrev sbgpRows : List Row
+abbrev pub sbgpRows : List Row
 sbgpRows = row 3 1 ∷ row 0 9 ∷ row 2 1 ∷ []
 
-abbrev sbgpPayload : List ℕ
+abbrev pub sbgpPayload : List ℕ
 sbgpPayload = front ++ u32 3 ++ u32 3 ++ u32 1 ++ u32 0 ++ u32 9 ++ u32 2 ++ u32 1
 
 -- a csgp whose fields all have 4 bits: n patterns, then the stream
-abbrev csgpPayload : ℕ → List ℕ → List ℕ
+abbrev pub csgpPayload : ℕ → List ℕ → List ℕ
 csgpPayload n stream = front ++ u32 n ++ stream
 
 abbrev pub tables : List Case
