@@ -336,4 +336,12 @@ pub fn document(out: &mut Vectors) {
     add(2, &[(3, most, vec![4, 4, 4])], Answer::Given(vec![rap, 0, 1, most as u64, 4]));
     add(4, &[(2, 2, vec![1, 2]), (1, most, vec![2])], Answer::Refused(28));
     add(0, &[(1, 0, vec![1])], Answer::Given(vec![rap, 0, 0]));
+    let mut add_count = |patterns: &[Pattern], answer: Answer<Vec<u64>>| {
+        let s = payload(&mut random, WIDE, patterns.len() as u32, patterns).unwrap();
+        out.add(22, &[], &s, answer);
+    };
+    add_count(&[(1, most, vec![1]), (1, 1, vec![1])], Answer::Refused(28));
+    add_count(&[(2, 2, vec![1, 2]), (1, most, vec![2])], Answer::Refused(28));
+    add_count(&[(2, most, vec![1, 2])], Answer::Given(vec![most as u64]));
+    add_count(&[(3, most, vec![4, 4, 4])], Answer::Given(vec![1]));
 }

@@ -6,6 +6,7 @@ use super::random::Random;
 use super::sgpd::{self, TYPES};
 use super::stbl::{self, Cue, Film, Parts};
 use super::tally::Tally;
+use super::vectors::Vectors;
 use super::{atoms, csgp, entries, tables};
 use crate::atom;
 use crate::sample_groups::{self as rust, SampleGroupDescription, SampleToGroup, SampleToGroupEntry};
@@ -577,5 +578,67 @@ pub fn run_pairs(tally: &mut Tally) {
             tally.input("pairs of unlike films");
             tally.same("cue_listing", listing == listing_c, false, &|| format!("the same listing of {film:?} and {other:?}: {a:02x?} and {c:02x?}"));
         }
+    }
+}
+
+/// A body as stored vectors: records and output exactly enough, some more, and one less of either. Those that would make long lines are left out.
+fn sample(out: &mut Vectors, random: &mut Random, kind: &[u8; 4], s: &[u8]) {
+    let told = told(s, kind);
+    let length = match &told {
+        Told::Read(rows, _) if rows.endless => return,
+        Told::Read(_, Ok(listing)) => listing.len(),
+        _ => 0,
+    };
+    let numbers = 2 * told.rows();
+    if s.len() > 110 || numbers > 20 || length > 60 {
+        return;
+    }
+    let spare = (numbers + random.below(4) as usize, length + random.below(9) as usize);
+    for (numbers, room) in [(numbers, length), spare, (numbers.saturating_sub(1), length), (numbers, length.saturating_sub(1))] {
+        let answer = told.answer(numbers / 2, room).map(|(listing, rows)| {
+            let mut told = vec![listing.len() as u64, rows.len() as u64];
+            told.extend(rows.iter().flat_map(|&(n, i)| [n as u64, i as u64]));
+            told.extend(listing.chunks(8).map(|bytes| {
+                let mut eight = [0; 8];
+                eight[..bytes.len()].copy_from_slice(bytes);
+                u64::from_be_bytes(eight)
+            }));
+            told
+        });
+        out.add(23, &[u32::from_be_bytes(*kind) as u64, numbers as u64, room as u64], s, answer);
+    }
+}
+
+pub fn vectors(out: &mut Vectors) {
+    let random = &mut Random::new(23);
+    sample(out, random, b"roll", &starred());
+    for kind in TYPES {
+        let film = Film { kind: *kind, values: vec![stbl::entry(random, kind)], cues: vec![Cue::Value(0), Cue::Value(0), Cue::NoGroup, Cue::Past] };
+        let s = stbl::body(random, &film);
+        sample(out, random, kind, &s);
+        for at in 0..s.len() {
+            let mut changed = s.clone();
+            changed[at] = if s[at] == 1 { 0 } else { s[at] ^ 1 << random.below(8) };
+            sample(out, random, kind, &changed);
+        }
+    }
+    // A rash without points.
+    for _ in 0..8 {
+        let s = stbl::body(random, &Film { kind: *b"rash", values: vec![vec![0, 0]], cues: vec![Cue::Value(0)] });
+        sample(out, random, b"rash", &s);
+    }
+    for _ in 0..4000 {
+        let film = if random.one_in(3) { wild(random, 6) } else { film(random, 6) };
+        let s = stbl::body(random, &film);
+        sample(out, random, &film.kind, &s);
+        let s = damaged(random, s);
+        sample(out, random, &film.kind, &s);
+        let parts = cut_or_shared(random, &film);
+        let s = stbl::assembled(random, &film.kind, &parts);
+        sample(out, random, &film.kind, &s);
+        let s = misbuilt(random, &film);
+        sample(out, random, &film.kind, &s);
+        let (film, s) = large(random);
+        sample(out, random, &film.kind, &s);
     }
 }

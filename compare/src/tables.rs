@@ -92,7 +92,12 @@ fn lookups(tally: &mut Tally, random: &mut Random, table: &SampleToGroup) {
     assert!(rows == kept, "rows were written");
 }
 
-/// The Rust's table for a payload as a stored vector, with `spare` numbers more than its rows need, and lookups around its seams.
+/// The number of the call that counts the rows of a table which another entry reads.
+fn counting(entry: u8) -> u8 {
+    if entry == 5 { 21 } else { 22 }
+}
+
+/// The Rust's table for a payload as a stored vector, with `spare` numbers more than its rows need, its row count, and lookups around its seams.
 pub fn sample(out: &mut Vectors, entry: u8, s: &[u8], spare: usize, told: Result<SampleToGroup>) {
     let rows = told.as_ref().map_or(0, |t| t.entries.len());
     if s.len() > 60 || rows > 20 {
@@ -103,6 +108,7 @@ pub fn sample(out: &mut Vectors, entry: u8, s: &[u8], spare: usize, told: Result
         numbers.extend(rows.iter().flat_map(|&(n, i)| [n as u64, i as u64]));
         numbers
     });
+    out.add(counting(entry), &[], s, theirs(&told).map(|(_, _, rows)| vec![rows.len() as u64]));
     out.add(entry, &[(2 * rows + spare) as u64], s, answer);
     let Ok(table) = told else { return };
     let run: Vec<u8> = table.entries.iter().flat_map(|e| [e.sample_count, e.group_description_index]).flat_map(u32::to_be_bytes).collect();

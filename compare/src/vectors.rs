@@ -9,7 +9,7 @@ const LIMIT: usize = 65_536;
 const NONE: u8 = 255;
 
 /// Each entry with the statuses that its stored lines must have, besides 0; 55 would take an input longer than a file.
-const STATUSES: [(u8, &[u8]); 20] = [
+const STATUSES: [(u8, &[u8]); 22] = [
     (1, &[1, 2, 3, 4, 5, NONE]),
     (2, &[1, 2, 3, 4, 5, 6, 7, NONE]),
     (3, &[1, 2, 3, 4, 5, 8, 9, 11, NONE]),
@@ -30,7 +30,13 @@ const STATUSES: [(u8, &[u8]); 20] = [
     (18, &[40, 44, 45]),
     (19, &[40, 44, 45, NONE]),
     (20, &[40, 44, 45, NONE]),
+    (21, &[20, 21, 22, 23]),
+    (22, &[20, 21, 22, 24, 25, 26, 27, 28]),
 ];
+
+/// The same of the cue listing, whose damaged lines are a file of their own.
+const LISTING: [(u8, &[u8]); 1] =
+    [(23, &[1, 2, 3, 4, 5, 6, 8, 20, 21, 22, 23, 24, 25, 26, 27, 28, 29, 30, 31, 32, 33, 34, 35, 40, 41, 42, 43, 44, 45, 50, 51, 52, 53, 54])];
 
 #[derive(Clone, PartialEq, Eq, PartialOrd, Ord)]
 struct Line {
@@ -109,9 +115,17 @@ impl Vectors {
 /// Prints lines that a replay must find to differ, for each entry: an answer in all its parts, each of its statuses as another one, and lines that
 /// are no record of a call. Fails where the files lack a status.
 pub fn print_damaged(files: &[Vectors]) {
+    damaged(&STATUSES, files)
+}
+
+pub fn print_damaged_listing(files: &[Vectors]) {
+    damaged(&LISTING, files)
+}
+
+fn damaged(entries: &[(u8, &[u8])], files: &[Vectors]) {
     let lines: Vec<&Line> = files.iter().flat_map(Vectors::chosen).collect();
     let mut damaged = Vec::new();
-    for (entry, statuses) in STATUSES {
+    for &(entry, statuses) in entries {
         let with = |status| lines.iter().filter(move |line| line.entry == entry && line.status == status);
         let of = |status| *with(status).min_by_key(|line| line.input.len()).unwrap_or_else(|| panic!("no line of entry {entry} with status {status}"));
         let value = *with(0).next().unwrap_or_else(|| panic!("no value of entry {entry}"));

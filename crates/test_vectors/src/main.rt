@@ -29,6 +29,8 @@ fn agrees(record: &[u8]) -> bool {
     match test_vector_lines::entry(record) {
         0..=4 => test_vectors_atoms::agrees(record),
         5..=8 => test_vectors_tables::agrees(record),
+        21..=22 => test_vectors_tables::agrees(record),
+        23 => test_vectors_listing::agrees(record),
         _ => test_vectors_descriptions::agrees(record),
     }
 }
@@ -75,5 +77,7 @@ fn main() {
     replay(b"tables");
     replay(b"document");
     replay(b"descriptions");
+    replay(b"listing");
     replay(b"damaged");
+    replay(b"damaged_listing");
 }

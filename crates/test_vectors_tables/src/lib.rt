@@ -15,7 +15,7 @@ fn same_table(record: &[u8], status: u32, head: &[u64], count: u64, rows: &[u32]
 }
 
 // The bytes are those of the first `count` rows.
-fn same_rows(seen: &[u8], rows: &[u32], count: u64) -> bool {
+pub fn same_rows(seen: &[u8], rows: &[u32], count: u64) -> bool {
     let n = seen.len() / 8;
     if rows.len() < n {
         return false;
@@ -103,6 +103,21 @@ fn covered(record: &[u8]) -> bool {
     test_vector_lines::agrees(record, status, &[out[0]])
 }
 
+// The number of rows that the record's input needs.
+fn needed(record: &[u8]) -> bool {
+    let mut out = [0u64; 1];
+    let status = count_rows(record, &mut out);
+    test_vector_lines::agrees(record, status, &[out[0]])
+}
+
+fn count_rows(record: &[u8], out: &mut [u64; 1]) -> u32 {
+    if test_vector_lines::entry(record) == 21 {
+        film_tables::film_sbgp_rows_needed(test_vector_lines::input(record), out)
+    } else {
+        film_tables::film_csgp_rows_needed(test_vector_lines::input(record), out)
+    }
+}
+
 // The entry that the record names, by its number in docs/VECTORS.md.
 pub fn agrees(record: &[u8]) -> bool {
     match test_vector_lines::entry(record) {
@@ -110,6 +125,8 @@ pub fn agrees(record: &[u8]) -> bool {
         6 => table(record),
         7 => lookup(record),
         8 => covered(record),
+        21 => needed(record),
+        22 => needed(record),
         _ => false,
     }
 }

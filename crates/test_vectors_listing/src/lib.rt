@@ -1,0 +1,97 @@
+// Stored answers for cue listings: whether the library gives the answer that a record has.
+
+// The byte at a place of the first `size`; 0 behind them.
+fn byte_of(listing: &[u8], size: u64, k: usize) -> u8 {
+    if size <= k as u64 {
+        return 0;
+    }
+    if listing.len() <= k {
+        return 0;
+    }
+    listing[k]
+}
+
+// The bytes are the first `size` of the listing, filled up with zeros to whole numbers.
+fn same_bytes(seen: &[u8], listing: &[u8], size: u64) -> bool {
+    let n = seen.len() as u64;
+    if n < size {
+        return false;
+    }
+    if 8 <= n - size {
+        return false;
+    }
+    let mut k: usize = 0;
+    while k < seen.len() {
+        if seen[k] != byte_of(listing, size, k) {
+            return false;
+        }
+        k = k + 1;
+    }
+    true
+}
+
+// The record's numbers are the two lengths, then the rows, then the listing's bytes, eight to a number.
+fn same_numbers(seen: &[u8], size: u64, count: u64, rows: &[u32], listing: &[u8]) -> bool {
+    if 64 < count {
+        return false;
+    }
+    if test_vector_lines::same_numbers(test_vector_lines::front(seen, 16), &[size, count]) {
+        let behind = test_vector_lines::rest(seen, 16);
+        let end = 16 * (count as usize);
+        if test_vectors_tables::same_rows(test_vector_lines::front(behind, end), rows, count) {
+            return same_bytes(test_vector_lines::rest(behind, end), listing, size);
+        }
+    }
+    false
+}
+
+fn listed(record: &[u8], rows: &mut [u32], listing: &mut [u8]) -> bool {
+    let mut out = [0u64; 2];
+    let status = film_listing::film_cue_listing(
+        test_vector_lines::input(record),
+        test_vector_lines::argument_u32(record, 0),
+        rows,
+        listing,
+        &mut out,
+    );
+    if test_vector_lines::same_status(record, status) {
+        if status != 0 {
+            return true;
+        }
+        return same_numbers(
+            test_vector_lines::numbers(record),
+            out[0],
+            out[1],
+            rows,
+            listing,
+        );
+    }
+    false
+}
+
+// The arguments are the type, the numbers lent for rows (at most 128 here) and the bytes lent for the listing (at most 256).
+fn cue(record: &[u8]) -> bool {
+    let mut rows = [0u32; 128];
+    let mut listing = [0u8; 256];
+    let numbers = test_vector_lines::argument(record, 1);
+    if 128 < numbers {
+        return false;
+    }
+    let bytes = test_vector_lines::argument(record, 2);
+    if 256 < bytes {
+        return false;
+    }
+    listed(
+        record,
+        &mut rows[..numbers as usize],
+        &mut listing[..bytes as usize],
+    )
+}
+
+// The entry that the record names, by its number in docs/VECTORS.md.
+pub fn agrees(record: &[u8]) -> bool {
+    if test_vector_lines::entry(record) == 23 {
+        return cue(record);
+    }
+    false
+}
