@@ -1,8 +1,16 @@
-// The table readers over row structs, from plain values: a local array of rows is lent for the call and handed back.
+// The functions over a lent slice of row structs, from plain values: a local array of rows is lent for the call and handed back.
 ghost use Rattle.table_sbgp.specs.Sbgp.{parseSbgp};
 ghost use Rattle.table_csgp.specs.Table.{parseCsgp};
 ghost use Rattle.table_structs.specs.Table.{GivesTableIn};
+ghost use Rattle.test_struct_runs.specs.Reads.{GivesReads};
+use base_ids::SampleNumber;
+use table_row_structs::ReadRow;
 use table_row_structs::SampleToGroupEntry;
+use table_row_structs::covered_samples;
+use table_row_structs::group_index_for_sample;
+use table_row_structs::row_at;
+use table_rows::Covered;
+use table_rows::Found;
 use table_rows::ParsedTable;
 
 pub struct TableRead {
@@ -24,4 +32,24 @@ pub fn csgp_over(s: &[u8], mut rows: [SampleToGroupEntry; 4]) -> TableRead
 {
     let answer = table_structs::parse_csgp(s, &mut rows);
     TableRead { answer, rows }
+}
+
+pub struct RowsRead {
+    pub row: ReadRow,
+    pub index: Found,
+    pub covered: Covered,
+}
+
+// The three readers of rows, over four rows: row k, the index of a sample, and the samples covered.
+pub fn read_over(rows: [SampleToGroupEntry; 4], k: usize, sample: SampleNumber) -> RowsRead
+    ensures { λ r. ⌜ GivesReads rows k (sample .0) r ⌝ }
+{
+    let row = row_at(&rows, k);
+    let index = group_index_for_sample(&rows, sample);
+    let covered = covered_samples(&rows);
+    RowsRead {
+        row,
+        index,
+        covered,
+    }
 }
