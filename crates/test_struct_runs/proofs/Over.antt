@@ -69,7 +69,7 @@ each-field [] (u ∷ us) h = absurd h
 each-field (x ∷ xs) [] h = absurd h
 each-field (x ∷ xs) (u ∷ us) h = (h .0, each-field xs us (h .1))
 
-rows-field : (xs : List SampleToGroupEntry) (vs : List Val) → Is (Array Entry 4) xs vs → Is (array-field E.the-field 4 .row) (map (E.the-field .into) xs) vs
+pub rows-field : (xs : List SampleToGroupEntry) (vs : List Val) → Is (Array Entry 4) xs vs → Is (array-field E.the-field 4 .row) (map (E.the-field .into) xs) vs
 rows-field xs vs is = (is .0, ((is .1 .0 .0, length-map xs (E.the-field .into) ∙ is .1 .0 .1), each-field xs (is .0) (is .1 .1)))
 
 read-is : (r : ParsedTable) (xs : List SampleToGroupEntry) (w u : Val) → Is Pt.the-row r (w ∷ []) → Is (Array Entry 4) xs (u ∷ [])

@@ -2,13 +2,18 @@
 ghost use Rattle.table_sbgp.specs.Sbgp.{parseSbgp};
 ghost use Rattle.table_csgp.specs.Table.{parseCsgp};
 ghost use Rattle.table_structs.specs.Table.{GivesTableIn};
-ghost use Rattle.test_struct_runs.specs.Reads.{GivesReads};
+ghost use Rattle.test_struct_runs.specs.Rows.{GivesReads, GivesWrites};
+use base_ids::RowNumber;
 use base_ids::SampleNumber;
 use table_row_structs::ReadRow;
 use table_row_structs::SampleToGroupEntry;
+use table_row_structs::SetRow;
+use table_row_structs::Written;
 use table_row_structs::covered_samples;
 use table_row_structs::group_index_for_sample;
 use table_row_structs::row_at;
+use table_row_structs::set_row;
+use table_row_structs::write_rows;
 use table_rows::Covered;
 use table_rows::Found;
 use table_rows::ParsedTable;
@@ -52,4 +57,24 @@ pub fn read_over(rows: [SampleToGroupEntry; 4], k: usize, sample: SampleNumber) 
         index,
         covered,
     }
+}
+
+pub struct RowsWritten {
+    pub written: Written,
+    pub set: SetRow,
+    pub rows: [SampleToGroupEntry; 4],
+}
+
+// The two writers of rows, over four rows: a run of pairs is written, then row k is set.
+pub fn write_over(
+    numbers: &[RowNumber],
+    mut rows: [SampleToGroupEntry; 4],
+    k: usize,
+    row: SampleToGroupEntry,
+) -> RowsWritten
+    ensures { λ r. ⌜ GivesWrites (now (numbers .entry)) rows k row r ⌝ }
+{
+    let written = write_rows(numbers, &mut rows);
+    let set = set_row(&mut rows, k, row);
+    RowsWritten { written, set, rows }
 }

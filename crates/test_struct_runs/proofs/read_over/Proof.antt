@@ -41,7 +41,7 @@ use Rattle.table_row_structs.proofs.covered_samples as sum
 use Rattle.table_row_structs.proofs.covered_samples.Symbol as sum-def
 use Rattle.table_row_structs.proofs.covered_samples.Symbol.{name as #sum}
 use Rattle.table_row_structs.proofs.covered_samples.Met as sum-thm
-use Rattle.test_struct_runs.specs.Reads.{GivesReads}
+use Rattle.test_struct_runs.specs.Rows.{GivesReads}
 use Rattle.test_struct_runs.specs.declared.RowsRead.{RowsRead}
 use Rattle.test_struct_runs.proofs.RowsRead as Rd
 use Rattle.test_struct_runs.proofs.RowsRead.Laws as Rd′
