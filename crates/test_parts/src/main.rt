@@ -1,5 +1,6 @@
 // Runs what no other program runs, and prints one line for each check: the entries of descriptions as parts of their payload, the
-// samples of a table by runs, and tables read into row structs, beside the same tables in flat rows.
+// samples of a table by runs, tables read into row structs, beside the same tables in flat rows, and what a cue listing leaves as it was.
+mod listing;
 mod structs;
 
 use base_ids::DescriptionIndex;
@@ -84,4 +85,5 @@ fn main() {
         group_sgpd::entry(film, DescriptionIndex(4)).len() == 0,
     );
     structs::run();
+    listing::run();
 }
