@@ -1,6 +1,6 @@
 //! One entry, run by this library, by the Rust, or by neither, on the same input: `bench ENTRY ours|rust|none`.
 //! `bench grow SHAPE SAMPLES CALLS` runs a csgp of that many samples; `bench periods LENGTH COUNT CALLS` one pattern of that length, of two
-//! runs, repeated that often.
+//! runs, repeated that often; `bench indices SHAPE BITS AHEAD CALLS` one period of a thousand indices of that many bits, behind AHEAD others.
 
 use crate::{atom, sample_groups};
 use std::hint::black_box;
@@ -167,6 +167,37 @@ fn periods(length: u32, count: u32, calls: u32) {
     }
 }
 
+/// A csgp whose indices have 4, 8, 16 or 32 bits: a pattern of `ahead` indices, which shifts the others where an index is half a byte, and
+/// one period of a thousand: all alike but the last, by turns, or without order.
+fn indices(shape: &str, bits: u32, ahead: u32, calls: u32) {
+    let mut state = 12345u32;
+    let mut random = || {
+        state = state.wrapping_mul(1664525).wrapping_add(1013904223);
+        state >> 28
+    };
+    let thousand = (0..1000u32).map(|k| match shape {
+        "alike" => 1 + k / 999,
+        "alternating" => 1 + k % 2,
+        _ => random(),
+    });
+    let all: Vec<u32> = (0..ahead).map(|_| 3).chain(thousand).collect();
+    let rows = 1 + all.windows(2).filter(|pair| pair[0] != pair[1]).count();
+    let mut s = [[0, 0, 0, 0x2c + bits.trailing_zeros() as u8 - 2], *b"rap ", (if ahead == 0 { 1u32 } else { 2 }).to_be_bytes()].concat();
+    for n in [ahead, 1000].into_iter().filter(|n| *n != 0) {
+        s.extend((n as u16).to_be_bytes());
+        s.extend(n.to_be_bytes());
+    }
+    match bits {
+        4 => s.extend(all.chunks(2).map(|pair| (16 * pair[0] + pair.get(1).unwrap_or(&0)) as u8)),
+        _ => s.extend(all.iter().flat_map(|i| i.to_be_bytes()[4 - bits as usize / 8..].to_vec())),
+    }
+    let s = black_box(s);
+    let mut run = vec![0u32; 2 * rows];
+    for _ in 0..calls {
+        assert_eq!(parse(film_parse_csgp, &s, &mut run), rows as u64);
+    }
+}
+
 pub fn main() {
     let words: Vec<String> = std::env::args().skip(1).collect();
     let words: Vec<&str> = words.iter().map(String::as_str).collect();
@@ -181,6 +212,7 @@ pub fn main() {
         ["sgpd_lengths", side] => described(side, true),
         ["rash_points", side] => decoded(side),
         ["periods", length, count, calls] => periods(length.parse().unwrap(), count.parse().unwrap(), calls.parse().unwrap()),
+        ["indices", shape, bits, ahead, calls] => indices(shape, bits.parse().unwrap(), ahead.parse().unwrap(), calls.parse().unwrap()),
         ["grow", shape, samples, calls] => grow(shape, samples.parse().unwrap(), calls.parse().unwrap()),
         _ => panic!("bench ENTRY ours|rust|none"),
     }

@@ -1,14 +1,14 @@
 -- A field of bits is a digit of the big-endian number around it: laws over the field's place and width.
 use mathlib.Core.Path.{_≡_, refl, ap, sym, _∙_}
 use Prim.Native.Nat.{ℕ, zero, suc, _+_, _-_, _*_, _/_, _%_, _^_, _<_, _≤_}
-use native.Mathlib.Nat.{add-zero, add-suc, add-assoc, mul-assoc, pow-suc, mul-add-div-right, mod-one, div-one, mod-eq-of-lt}
+use native.Mathlib.Nat.{add-zero, add-suc, add-assoc, mul-assoc, pow-suc, mul-add-div-right, mod-one, div-one, one-mul, mod-eq-of-lt}
 use native.Mathlib.Decide.{decLt}
 use native.Mathlib.Numerals.{add-one}
 use native.Mathlib.Omega.{arith}
 use mathlib.Core.List.{List}
 use mathlib.Core.Logic.{⊎-elim}
 use lib.ListN.{getD}
-use lib.Pow.{pow-add, pow-pos, shr-shr, mod-pow-add}
+use lib.Pow.{pow-add, pow-pos, pow-lt, shr-shr, mod-pow-add}
 use Rattle.base_fields.specs.Number.{beAt, bitAt, bitsAt}
 
 abbrev pub Bytes : List ℕ → Type 0
@@ -56,6 +56,10 @@ bits-of (suc w) n s b o bytes h =
     bits-of w n s b o bytes (omega arith) ∙ rw e (rw (← shr-shr (beAt n s b) k 1) refl) in
     let j : bitAt s (8 * b + o + w) ≡ y % 2 = rw (add-assoc (8 * b) o w) (sym (bit-of n s b (o + w) bytes (omega arith)) ∙ rw f refl) in
     rw (i, j) (sym (mod-pow-add y w 1) ∙ ap (λ (m : ℕ). y % 2 ^ m) (add-one w))
+
+-- a divisor of the code is a power of 2 that does not wrap
+pub divisor : (w : ℕ) → w ≤ 32 → (1 * 2 ^ w) % 18446744073709551616 ≡ 2 ^ w
+divisor w h = rw one-mul (mod-eq-of-lt (pow-lt {i = w} {j = 64} (omega arith)))
 
 -- a number of w bytes is below 256 to the w
 pub beAt-below : (w : ℕ) (s : List ℕ) (p : ℕ) → Bytes s → beAt w s p < 256 ^ w

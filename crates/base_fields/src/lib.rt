@@ -4,6 +4,7 @@ pub mod fourcc;
 ghost use mathlib.Core.Path.{_≡_};
 ghost use Prim.Native.Nat.{_+_, _*_, _≤_, _<_, _^_};
 ghost use lib.ListN.{length};
+ghost use Rattle.base_fields.specs.Answer.{inputLimit};
 ghost use Rattle.base_fields.specs.Number.{beAt, bitsAt};
 
 // The longest input that is taken, in bytes.
@@ -30,11 +31,20 @@ pub fn read_u32(s: &[u8], at: usize) -> u32
     (read_u16(s, at) as u32) * 65536 + (read_u16(s, at + 2) as u32)
 }
 
+// Byte by byte, so that the compiler makes one load of it.
 pub fn read_u64(s: &[u8], at: usize) -> u64
     requires { ⌜ at + 8 ≤ length (now s) ⌝ }
     ensures { λ r. ⌜ (r ≡ beAt 8 (now (s .entry)) at) × (r < 18446744073709551616) ⌝ }
 {
-    (read_u32(s, at) as u64) * 4294967296 + (read_u32(s, at + 4) as u64)
+    let high = (read_u8(s, at) as u64) * 72057594037927936
+        + (read_u8(s, at + 1) as u64) * 281474976710656
+        + (read_u8(s, at + 2) as u64) * 1099511627776
+        + (read_u8(s, at + 3) as u64) * 4294967296;
+    let low = (read_u8(s, at + 4) as u64) * 16777216
+        + (read_u8(s, at + 5) as u64) * 65536
+        + (read_u8(s, at + 6) as u64) * 256
+        + (read_u8(s, at + 7) as u64);
+    high + low
 }
 
 // The byte at a place, 0 past the end.
@@ -57,12 +67,26 @@ fn window(s: &[u8], at: usize) -> u64
     (high + low) * 256 + byte_or_zero(s, at + 4)
 }
 
-// The number in `width` bits from a bit place, high bit first.
-pub fn read_bits(s: &[u8], at: usize, width: u32) -> u32
+// A field of bits by the five bytes that it starts in: for the few that end within the first seven bytes.
+fn early_bits(s: &[u8], at: usize, width: u32) -> u32
     requires { ⌜ (width ≤ 32) × (at + width ≤ 8 * length (now s)) ⌝ }
     ensures { λ r. ⌜ (r ≡ bitsAt width (now (s .entry)) at) × (r < 2 ^ width) ⌝ }
 {
     let skipped = (at % 8) as u32;
     let shifted = window(s, at / 8) >> (40 - skipped - width);
+    (shifted % (1u64 << width)) as u32
+}
+
+// The number in `width` bits from a bit place, high bit first: cut out of the eight bytes that it ends in.
+pub fn read_bits(s: &[u8], at: usize, width: u32) -> u32
+    requires { ⌜ (width ≤ 32) × (at + width ≤ 8 * length (now s)) × (length (now s) ≤ inputLimit) ⌝ }
+    ensures { λ r. ⌜ (r ≡ bitsAt width (now (s .entry)) at) × (r < 2 ^ width) ⌝ }
+{
+    let behind = at + width as usize;
+    let end = (behind + 7) / 8;
+    if end < 8 {
+        return early_bits(s, at, width);
+    }
+    let shifted = read_u64(s, end - 8) >> (8 * end - behind);
     (shifted % (1u64 << width)) as u32
 }

@@ -4,7 +4,8 @@ pub mod run;
 
 ghost use mathlib.Core.Path.{_≡_};
 ghost use Prim.Native.Nat.{_+_, _≤_, _<_, min};
-ghost use lib.ListN.{getD};
+ghost use lib.ListN.{length as size, getD};
+ghost use Rattle.base_fields.specs.Answer.{inputLimit};
 ghost use Rattle.base_fields.specs.Number.{fieldBound};
 ghost use Rattle.table_patterns.specs.Place.{indexField, bitCount, patternIn, Stands};
 use base_ids::DescriptionIndex;
@@ -22,7 +23,7 @@ pub struct PatternAt {
 
 // The index at a bit place.
 pub fn read_index(s: &[u8], at: usize, width: u32) -> u32
-    requires { ⌜ (width ≤ 32) × (at + width ≤ bitCount (now s)) ⌝ }
+    requires { ⌜ (width ≤ 32) × (at + width ≤ bitCount (now s)) × (size (now s) ≤ inputLimit) ⌝ }
     ensures { λ r. ⌜ (r ≡ indexField width (now (s .entry)) at) × (r < fieldBound) ⌝ }
 {
     base_fields::read_bits(s, at, width)

@@ -1,28 +1,34 @@
--- The field lies in the window of five bytes: `window` gives their number, and shift and remainder cut the field out of it.
+-- The field lies in the eight bytes before the end of its last one: shift and remainder cut it out of their number.
 use mathlib.Core.Path.{_≡_, sym, _∙_}
 use Prim.Native.Nat.{ℕ, _+_, _-_, _*_, _/_, _%_, _^_, _<_, _≤_}
-use native.Mathlib.Nat.{mod-lt, one-mul, mod-eq-of-lt, lt-of-lt-of-le}
+use native.Mathlib.Nat.{mod-lt, lt-of-lt-of-le}
 use native.Mathlib.Omega.{arith}
-use lib.Pow.{pow-pos, pow-lt, pow-mono}
-use Rattle.base_fields.proofs.Bits.{bits-of}
+use lib.Pow.{pow-pos, pow-mono}
 use borrow.Author.Needs.{needs}
+use Rattle.base_fields.proofs.Bits.{bits-of, divisor}
 use Rattle.base_fields.proofs.read_bits.Statement.{statement}
 use Rattle.base_fields.proofs.read_bits.Tie as tie
 
-cast-skipped : tie.Need-cast-skipped
-cast-skipped c = search needs
+add-behind : tie.Need-add-behind
+add-behind c = omega arith
 
-window-requires : tie.Need-window-requires
-window-requires c κs = search needs
+add-end : tie.Need-add-end
+add-end c = omega arith
+
+early-bits-requires : tie.Need-early-bits-requires
+early-bits-requires c κs = search needs
+
+returns : tie.Need-returns
+returns c = search needs
+
+read-u64-requires : tie.Need-read-u64-requires
+read-u64-requires c κs = search needs
+
+mul-shifted : tie.Need-mul-shifted
+mul-shifted c = omega arith
 
 sub-shifted : tie.Need-sub-shifted
 sub-shifted c = search needs
-
-sub-shifted-2 : tie.Need-sub-shifted-2
-sub-shifted-2 c = search needs
-
-cast-shifted : tie.Need-cast-shifted
-cast-shifted c = search needs
 
 shr-shifted : tie.Need-shr-shifted
 shr-shifted c = search needs
@@ -30,37 +36,42 @@ shr-shifted c = search needs
 shl-result : tie.Need-shl-result
 shl-result c = search needs
 
--- the divisor is a power of 2 that does not wrap
-divisor : (w : ℕ) → w ≤ 32 → (1 * 2 ^ w) % 18446744073709551616 ≡ 2 ^ w
-divisor w h = rw one-mul (mod-eq-of-lt (pow-lt {i = w} {j = 64} (omega arith)))
-
 rem-result : tie.Need-rem-result
-rem-result c = rw (divisor (c .before .before .args .width) (omega arith)) (pow-pos _)
+rem-result c =
+    let start = c .before .before .before in
+    rw (divisor (start .args .width) (omega arith)) (pow-pos _)
 
 cast-result : tie.Need-cast-result
 cast-result c =
-    let w = c .before .before .args .width in
+    let start = c .before .before .before in
+    let w = start .args .width in
     rw (divisor w (omega arith)) (record { fits = lt-of-lt-of-le (mod-lt _ (pow-pos w)) (pow-mono {i = w} {j = 32} (omega arith)) })
 
-returns : tie.Need-returns
-returns c =
-    let a = c .before .before .args in
+returns-2 : tie.Need-returns-2
+returns-2 c =
+    let start = c .before .before .before in
+    let a = start .args in
     let w = a .width in
-    let e : 8 * (a .at / 8) + a .at % 8 ≡ a .at = omega arith in
-    let b = rw e at (bits-of w 5 (a .s .now) (a .at / 8) (a .at % 8) (λ k. c .before .shared-slice-known .given k .fits) (omega arith)) in
-    rw (divisor w (omega arith)) (rw (c .window .ensures .0) (sym b), mod-lt _ (pow-pos w))
+    let end = (a .at + w + 7) / 8 in
+    let first = 8 * (end - 8) in
+    let e : first + (a .at - first) ≡ a .at = omega arith in
+    let d : 8 * 8 - (a .at - first) - w ≡ 8 * end - (a .at + w) = omega arith in
+    let b = rw (e, d) at (bits-of w 8 (a .s .now) (end - 8) (a .at - first) (λ k. c .before .before .shared-slice-known .given k .fits) (omega arith)) in
+    rw (divisor w (omega arith)) (rw (c .read-u64 .ensures .0) (sym b), mod-lt _ (pow-pos w))
 
 pub read-bits-spec : {M : Type 1} → statement M
 read-bits-spec =
     tie.close
     (tie.spec
-    cast-skipped
-    window-requires
+    add-behind
+    add-end
+    early-bits-requires
+    returns
+    read-u64-requires
+    mul-shifted
     sub-shifted
-    sub-shifted-2
-    cast-shifted
     shr-shifted
     shl-result
     rem-result
     cast-result
-    returns)
+    returns-2)
