@@ -67,7 +67,7 @@ fn window(s: &[u8], at: usize) -> u64
     (high + low) * 256 + byte_or_zero(s, at + 4)
 }
 
-// A field of bits by the five bytes that it starts in: for the few that end within the first seven bytes.
+// A field of bits by the five bytes that it starts in: for the few that start within the first eight bytes.
 fn early_bits(s: &[u8], at: usize, width: u32) -> u32
     requires { ⌜ (width ≤ 32) × (at + width ≤ 8 * length (now s)) ⌝ }
     ensures { λ r. ⌜ (r ≡ bitsAt width (now (s .entry)) at) × (r < 2 ^ width) ⌝ }
@@ -77,16 +77,24 @@ fn early_bits(s: &[u8], at: usize, width: u32) -> u32
     (shifted % (1u64 << width)) as u32
 }
 
-// The number in `width` bits from a bit place, high bit first: cut out of the eight bytes that it ends in.
-pub fn read_bits(s: &[u8], at: usize, width: u32) -> u32
-    requires { ⌜ (width ≤ 32) × (at + width ≤ 8 * length (now s)) × (length (now s) ≤ inputLimit) ⌝ }
+// The number in `width` bits from a bit place, high bit first, where eight bytes end with it: it is cut out of them.
+pub fn late_bits(s: &[u8], at: usize, width: u32) -> u32
+    requires { ⌜ (width ≤ 32) × (64 ≤ at + width) × (at + width ≤ 8 * length (now s)) × (length (now s) ≤ inputLimit) ⌝ }
     ensures { λ r. ⌜ (r ≡ bitsAt width (now (s .entry)) at) × (r < 2 ^ width) ⌝ }
 {
     let behind = at + width as usize;
     let end = (behind + 7) / 8;
-    if end < 8 {
-        return early_bits(s, at, width);
-    }
     let shifted = read_u64(s, end - 8) >> (8 * end - behind);
     (shifted % (1u64 << width)) as u32
+}
+
+// The number in `width` bits from any bit place, high bit first.
+pub fn read_bits(s: &[u8], at: usize, width: u32) -> u32
+    requires { ⌜ (width ≤ 32) × (at + width ≤ 8 * length (now s)) × (length (now s) ≤ inputLimit) ⌝ }
+    ensures { λ r. ⌜ (r ≡ bitsAt width (now (s .entry)) at) × (r < 2 ^ width) ⌝ }
+{
+    if at < 64 {
+        return early_bits(s, at, width);
+    }
+    late_bits(s, at, width)
 }

@@ -1,10 +1,12 @@
 -- The check of the patterns: what is ahead decides the whole.
 use mathlib.Core.Path.{_≡_, refl, ap, _∙_}
+use mathlib.Core.Bool.{Bool, true, false}
 use Prim.Native.Nat.{ℕ, suc, _+_, _-_, _*_, _≤_, _<_}
 use native.Mathlib.Nat.{suc-mul}
 use native.Mathlib.Omega.{arith}
 use mathlib.Core.List.{List, _∷_}
-use Rattle.base_fields.specs.Answer.{given, refused, andThen}
+use Rattle.base_fields.specs.Answer.{given, refused, choose, andThen}
+use Rattle.table_front.specs.Front.{hasParameter}
 use Rattle.table_front.proofs.Fronts.{front-rest}
 use Rattle.table_front.specs.declared.TableKind.the-variants.{Csgp}
 use Rattle.table_patterns.specs.Place.{bitCount, patternIn, Stands}
@@ -21,6 +23,15 @@ pub record Checked (s : List ℕ) (here : PatternsAt) : Type 0 where
   pub passed : Read (here .left) s (here .pair) (here .indices) → Read (patternCount s) s (streamPlace s) (indexPlace s)
   pub pairsFit : here .pair + here .left * (lengthWidth s + countWidth s) ≤ bitCount s
   pub inside : here .indices ≤ bitCount s
+  pub late : 64 ≤ here .indices
+
+-- the bit stream begins behind the first twelve bytes
+stream-late : (s : List ℕ) → 96 ≤ streamPlace s
+stream-late s = omega (arith, by (hasParameter Csgp s))
+  where
+    by : (b : Bool) → 8 ≤ choose b 12 8
+    by true = omega arith
+    by false = omega arith
 
 -- behind the fixed fields, the patterns are all of a payload
 pub csgp-all : (s : List ℕ) {h : CsgpHead} → Fixed s h → csgp s ≡ readAll s
@@ -38,7 +49,7 @@ module _ (s : List ℕ) (h : CsgpHead) (f : Fixed s h) where
       }
 
   pub checked-all : indexPlace s ≤ bitCount s → Checked s (allPatterns h)
-  checked-all fits = rw (f .count, f .pairsPlace, f .indicesPlace) (record { refusal = λ e. e; passed = λ r. r; pairsFit = fits; inside = fits })
+  checked-all fits = rw (f .count, f .pairsPlace, f .indicesPlace) (record { refusal = λ e. e; passed = λ r. r; pairsFit = fits; inside = fits; late = omega (arith, stream-late s) })
 
   module _ (here : PatternsAt) (c : Checked s here) where
     pub checked-end : here .left ≡ 0 → Read (patternCount s) s (streamPlace s) (indexPlace s)
@@ -74,7 +85,7 @@ module _ (s : List ℕ) (h : CsgpHead) (f : Fixed s h) where
           more = first ∙ ahead-more s (here .left - 1) (here .pair) (here .indices) fits d e
 
           stands : Stands s (placeAt s (here .pair) (here .indices))
-          stands = record { narrow = widths s .index .1; some = omega arith; inside = e; short = f .short }
+          stands = record { narrow = widths s .index .1; some = omega arith; late = omega (arith, c .late); inside = e; short = f .short }
 
           read-more : Read (here .left - 1) s (pairBehind s (here .pair)) (indicesBehind s (here .pair) (here .indices)) → Read (here .left) s (here .pair) (here .indices)
           unfolding WholeFrom patternsFrom
@@ -88,4 +99,5 @@ module _ (s : List ℕ) (h : CsgpHead) (f : Fixed s h) where
                 passed = λ r. c .passed (read-more r);
                 pairsFit = omega (arith, fits, suc-mul (here .left - 1) (lengthWidth s + countWidth s));
                 inside = e;
+                late = omega (arith, c .late);
               })

@@ -27,9 +27,10 @@ indicesAt width (suc n) s p = indexField width s p ∷ indicesAt width n s (p + 
 abbrev pub patternIn : List ℕ → PatternAt → Pattern
 patternIn s p = record { indices = indicesAt (p .width) (p .length) s (p .indices); count = p .count }
 
--- it has an index at least, and all of them are within the payload
+-- it has an index at least, and all of them are within the payload; eight bytes end with the first one, or before
 pub record Stands (s : List ℕ) (p : PatternAt) : Type 0 where
   pub narrow : p .width ≤ 32
   pub some : 0 < p .length
+  pub late : 64 ≤ p .indices + p .width
   pub inside : p .indices + p .width * p .length ≤ bitCount s
   pub short : length s ≤ inputLimit

@@ -23,10 +23,10 @@ pub struct PatternAt {
 
 // The index at a bit place.
 pub fn read_index(s: &[u8], at: usize, width: u32) -> u32
-    requires { ⌜ (width ≤ 32) × (at + width ≤ bitCount (now s)) × (size (now s) ≤ inputLimit) ⌝ }
+    requires { ⌜ (width ≤ 32) × (64 ≤ at + width) × (at + width ≤ bitCount (now s)) × (size (now s) ≤ inputLimit) ⌝ }
     ensures { λ r. ⌜ (r ≡ indexField width (now (s .entry)) at) × (r < fieldBound) ⌝ }
 {
-    base_fields::read_bits(s, at, width)
+    base_fields::late_bits(s, at, width)
 }
 
 // The index at a position, counted from 0.

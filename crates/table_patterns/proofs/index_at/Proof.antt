@@ -26,7 +26,7 @@ read-index-requires : tie.Need-read-index-requires
 read-index-requires c κs =
     let p = c .before .before .args .pattern in
     let h = c .before .before .pre in
-    (h .0 .narrow, omega (arith, field-end (p .width) (p .indices) (c .before .before .args .position) (p .length) (h .1), h .0 .inside), h .0 .short)
+    (h .0 .narrow, omega (arith, h .0 .late), omega (arith, field-end (p .width) (p .indices) (c .before .before .args .position) (p .length) (h .1), h .0 .inside), h .0 .short)
 
 returns : tie.Need-returns
 returns c =

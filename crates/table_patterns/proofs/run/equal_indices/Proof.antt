@@ -19,22 +19,22 @@ abbrev μ-loop : tie.MeasureT-loop
 mul-at : tie.Need-mul-at Inv-loop μ-loop
 mul-at c =
     let a = c .before .args in
-    omega (arith, field-end (a .width) (a .place) (a .from) (a .end) (c .before .pre .1))
+    omega (arith, field-end (a .width) (a .place) (a .from) (a .end) (c .before .pre .2))
 
 add-at : tie.Need-add-at Inv-loop μ-loop
 add-at c =
     let a = c .before .args in
-    omega (arith, field-end (a .width) (a .place) (a .from) (a .end) (c .before .pre .1))
+    omega (arith, field-end (a .width) (a .place) (a .from) (a .end) (c .before .pre .2))
 
 read-index-requires : tie.Need-read-index-requires Inv-loop μ-loop
 read-index-requires c κs =
     let a = c .before .args in
-    omega (arith, field-end (a .width) (a .place) (a .from) (a .end) (c .before .pre .1))
+    omega (arith, field-end (a .width) (a .place) (a .from) (a .end) (c .before .pre .2))
 
 loop-holds : tie.Need-loop-holds Inv-loop μ-loop
 loop-holds c =
     let a = c .before .before .args in
-    (run-one _ (a .from) (a .end) (c .before .before .pre .1) (sym (c .read-index .ensures .0)), omega (arith, mul-suc (a .width) (a .from)))
+    (run-one _ (a .from) (a .end) (c .before .before .pre .2) (sym (c .read-index .ensures .0)), omega (arith, mul-suc (a .width) (a .from)))
 
 add-loop : tie.Need-add-loop Inv-loop μ-loop
 add-loop c = search needs
@@ -42,12 +42,12 @@ add-loop c = search needs
 add-at-2 : tie.Need-add-at-2 Inv-loop μ-loop
 add-at-2 c =
     let a = c .before .before .before .before .args in
-    omega (arith, c .before .loop .inv .1, field-end (a .width) (a .place) (a .from + c .before .loop .count) (a .end) (c .loop-test .taken), c .before .before .before .before .pre .2, c .before .before .before .before .pre .3)
+    omega (arith, c .before .loop .inv .1, field-end (a .width) (a .place) (a .from + c .before .loop .count) (a .end) (c .loop-test .taken), c .before .before .before .before .pre .3, c .before .before .before .before .pre .4)
 
 read-index-requires-2 : tie.Need-read-index-requires-2 Inv-loop μ-loop
 read-index-requires-2 c κs =
     let a = c .before .before .before .before .args in
-    omega (arith, c .before .loop .inv .1, field-end (a .width) (a .place) (a .from + c .before .loop .count) (a .end) (c .loop-test .taken), c .before .before .before .before .pre .0, c .before .before .before .before .pre .2)
+    omega (arith, c .before .loop .inv .1, field-end (a .width) (a .place) (a .from + c .before .loop .count) (a .end) (c .loop-test .taken), c .before .before .before .before .pre .0, c .before .before .before .before .pre .3)
 
 returns : tie.Need-returns Inv-loop μ-loop
 returns c = c .before .before .before .loop .inv .0

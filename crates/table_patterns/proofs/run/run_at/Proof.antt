@@ -36,14 +36,14 @@ least-requires c κs = search needs
 add-end : tie.Need-add-end
 add-end c = omega (arith, turn-below (entry c), c .least .ensures)
 
-equal-indices-requires : tie.Need-equal-indices-requires
-equal-indices-requires c κs =
+alike-indices-requires : tie.Need-alike-indices-requires
+alike-indices-requires c κs =
     let start = entry c in
     let p = start .args .pattern in
     let m = turn-below start in
     let n = c .least .ensures in
     let h : turn start + c .least .result ≤ p .length = omega arith in
-    (start .pre .0 .narrow, omega (arith, start .pre .1), omega (arith, mul-le-mul-left (p .width) h, start .pre .0 .inside), start .pre .0 .short)
+    (start .pre .0 .narrow, start .pre .0 .late, omega (arith, start .pre .1), omega (arith, mul-le-mul-left (p .width) h, start .pre .0 .inside), start .pre .0 .short)
 
 returns : tie.Need-returns
 returns c =
@@ -53,7 +53,7 @@ returns c =
     let f = indexNumber (p .width) (start .args .s .now) (p .indices) in
     let m = turn-below start in
     let end = turn start + found .before .least .result in
-    let t = subst (λ (n : ℕ). AlikeIndices f (turn start) end (record { count = n; index = found .equal-indices .result .index })) (c .if1 .taken) (found .equal-indices .ensures) in
+    let t = subst (λ (n : ℕ). AlikeIndices f (turn start) end (record { count = n; index = found .alike-indices .result .index })) (c .if1 .taken) (found .alike-indices .ensures) in
     gives-run (start .args .s .now) p (start .args .k) _ (start .pre .0 .some)
     (run-all f (p .length) (start .args .k) (p .count) (start .pre .0 .some) _ _ t (omega (arith, found .before .least .ensures)) (start .pre .1))
 
@@ -65,7 +65,7 @@ returns-2 c =
     let m = turn-below start in
     let n = found .before .least .ensures in
     gives-run (start .args .s .now) p (start .args .k) _ (start .pre .0 .some)
-    (run-part _ (p .length) (start .args .k) (p .count) (start .pre .0 .some) _ _ (found .equal-indices .ensures) (omega arith) (omega arith) (start .pre .1))
+    (run-part _ (p .length) (start .args .k) (p .count) (start .pre .0 .some) _ _ (found .alike-indices .ensures) (omega arith) (omega arith) (start .pre .1))
 
 pub run-at-spec : {M : Type 1} → statement M
 run-at-spec =
@@ -76,6 +76,6 @@ run-at-spec =
     sub-least
     least-requires
     add-end
-    equal-indices-requires
+    alike-indices-requires
     returns
     returns-2)

@@ -6,8 +6,8 @@ use native.Mathlib.Omega.{arith}
 use lib.Pow.{pow-pos, pow-mono}
 use borrow.Author.Needs.{needs}
 use Rattle.base_fields.proofs.Bits.{bits-of, divisor}
-use Rattle.base_fields.proofs.read_bits.Statement.{statement}
-use Rattle.base_fields.proofs.read_bits.Tie as tie
+use Rattle.base_fields.proofs.late_bits.Statement.{statement}
+use Rattle.base_fields.proofs.late_bits.Tie as tie
 
 add-behind : tie.Need-add-behind
 add-behind c = omega arith
@@ -15,11 +15,8 @@ add-behind c = omega arith
 add-end : tie.Need-add-end
 add-end c = omega arith
 
-early-bits-requires : tie.Need-early-bits-requires
-early-bits-requires c κs = search needs
-
-returns : tie.Need-returns
-returns c = search needs
+sub-read-u64 : tie.Need-sub-read-u64
+sub-read-u64 c = omega arith
 
 read-u64-requires : tie.Need-read-u64-requires
 read-u64-requires c κs = search needs
@@ -38,35 +35,34 @@ shl-result c = search needs
 
 rem-result : tie.Need-rem-result
 rem-result c =
-    let start = c .before .before .before in
+    let start = c .before .before in
     rw (divisor (start .args .width) (omega arith)) (pow-pos _)
 
 cast-result : tie.Need-cast-result
 cast-result c =
-    let start = c .before .before .before in
+    let start = c .before .before in
     let w = start .args .width in
     rw (divisor w (omega arith)) (record { fits = lt-of-lt-of-le (mod-lt _ (pow-pos w)) (pow-mono {i = w} {j = 32} (omega arith)) })
 
-returns-2 : tie.Need-returns-2
-returns-2 c =
-    let start = c .before .before .before in
+returns : tie.Need-returns
+returns c =
+    let start = c .before .before in
     let a = start .args in
     let w = a .width in
     let end = (a .at + w + 7) / 8 in
     let first = 8 * (end - 8) in
     let e : first + (a .at - first) ≡ a .at = omega arith in
     let d : 8 * 8 - (a .at - first) - w ≡ 8 * end - (a .at + w) = omega arith in
-    let b = rw (e, d) at (bits-of w 8 (a .s .now) (end - 8) (a .at - first) (λ k. c .before .before .shared-slice-known .given k .fits) (omega arith)) in
+    let b = rw (e, d) at (bits-of w 8 (a .s .now) (end - 8) (a .at - first) (λ k. c .before .shared-slice-known .given k .fits) (omega arith)) in
     rw (divisor w (omega arith)) (rw (c .read-u64 .ensures .0) (sym b), mod-lt _ (pow-pos w))
 
-pub read-bits-spec : {M : Type 1} → statement M
-read-bits-spec =
+pub late-bits-spec : {M : Type 1} → statement M
+late-bits-spec =
     tie.close
     (tie.spec
     add-behind
     add-end
-    early-bits-requires
-    returns
+    sub-read-u64
     read-u64-requires
     mul-shifted
     sub-shifted
@@ -74,4 +70,4 @@ read-bits-spec =
     shl-result
     rem-result
     cast-result
-    returns-2)
+    returns)
