@@ -14,6 +14,7 @@ use table_patterns::run::run_at;
 use table_replay::enter::Tail;
 use table_replay::records::copy_rows;
 use table_replay::records::put_row;
+use table_replay::singly::write_singly;
 use table_replay::step::Stepped;
 use table_replay::step::pattern_start;
 use table_replay::step::replay_step;
@@ -40,7 +41,7 @@ pub fn fill(s: &[u8], head: CsgpHead, rows: &mut [RowNumber])
                 Stepped::Next(next, stood) => {
                     copy_rows(rows, state.mark.tail.rows, stood, next.tail.rows);
                     put_row(rows, next.tail.rows - 1, next.tail.count, next.tail.index);
-                    state = next;
+                    state = write_singly(s, pattern, next, rows);
                 }
                 Stepped::Over => return,
                 Stepped::Full => return,

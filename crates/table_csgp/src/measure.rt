@@ -10,6 +10,7 @@ use table_csgp_head::pattern_at;
 use table_csgp_head::patterns_behind;
 use table_patterns::run::run_at;
 use table_replay::enter::Tail;
+use table_replay::singly::enter_singly;
 use table_replay::step::Stepped;
 use table_replay::step::pattern_start;
 use table_replay::step::replay_step;
@@ -37,7 +38,7 @@ pub fn measure(s: &[u8], head: CsgpHead, room: usize) -> Measured
         while state.sample < pattern.count {
             let run = run_at(s, pattern, state.sample);
             match replay_step(pattern, state, run, room) {
-                Stepped::Next(next, _stood) => state = next,
+                Stepped::Next(next, _stood) => state = enter_singly(s, pattern, next, room),
                 Stepped::Over => {
                     told = 28;
                     break 'replay;

@@ -1,9 +1,10 @@
 -- What a run of samples of one index does to the rows.
 use mathlib.Core.Path.{_≡_, refl}
+use mathlib.Core.Bool.{Bool, true, false}
 use Prim.Native.Nat.{ℕ, _+_, _≤_, _<_}
 use native.Mathlib.Numerals.{add-one}
 use native.Mathlib.Omega.{arith}
-use borrow.Author.Tests.{lt-ltb, eq-eqb, ltb-true, ltb-false, leb-true, leb-false, eqb-true, eqb-false}
+use borrow.Author.Tests.{lt-ltb, le-ltb, eq-eqb, ne-eqb, lt-leb, ltb-true, ltb-false, leb-true, leb-false, eqb-true, eqb-false}
 use mathlib.Core.List.{List, [], _∷_}
 use lib.Dec.{ltb, leb, eqb}
 use lib.ListN.{length, replicate}
@@ -72,3 +73,14 @@ module _ (room n i : ℕ) (pos : 0 < n) (fits : n ≤ countLimit) where
 pub tail-length : (rows : List Row) → tailOf rows .rows ≡ length rows
 tail-length [] = refl
 tail-length (r ∷ rs) = refl
+
+-- one sample, by its tests
+pub single-joins : (room : ℕ) (t : Tail) (i : ℕ) → 0 < t .rows → t .index ≡ i → t .count + 1 ≤ countLimit → enterRun room t 1 i ≡ given (record { rows = t .rows; count = t .count + 1; index = i })
+single-joins room t i h e l = simp (lt-ltb _ _ h, eq-eqb _ _ e, le-ltb _ _ l)
+
+pub single-begins : (room : ℕ) (t : Tail) (i : ℕ) → (t .index ≡ i → ⊥) → t .rows < room → enterRun room t 1 i ≡ given (record { rows = t .rows + 1; count = 1; index = i })
+single-begins room t i d h = rw (ne-eqb _ _ d, lt-leb _ _ h) (by (ltb 0 (t .rows)))
+  where
+    by : (b : Bool) {x : Answer Tail} → choose b x x ≡ x
+    by true = refl
+    by false = refl

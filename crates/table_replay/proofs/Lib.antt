@@ -7,3 +7,4 @@ pub mod Stepping
 pub mod Within
 pub mod Rooms
 pub mod Numbered
+pub mod OneByOne

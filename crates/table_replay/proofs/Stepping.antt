@@ -1,6 +1,6 @@
 -- A step of the replay within a pattern: a run of samples, and the periods behind it that are passed.
 use mathlib.Core.Path.{_≡_, refl, ap, sym, _∙_}
-use mathlib.Core.Logic.{⊎-elim}
+use mathlib.Core.Logic.{inl, ⊎-elim}
 use Prim.Native.Nat.{ℕ, _+_, _-_, _*_, _≤_, _<_}
 use native.Mathlib.Nat.{zero-mul}
 use native.Mathlib.Omega.{arith}
@@ -10,8 +10,8 @@ use lib.ListN.{length, replicate}
 use Rattle.base_fields.specs.Answer.{Answer, given, refused}
 use Rattle.base_ids.specs.Limits.{countLimit}
 use Rattle.table_rows.specs.Row.{Row}
-use Rattle.table_rows.specs.Pattern.{Pattern, samplesFrom}
-use Rattle.table_rows.proofs.Samples.{samplesFrom-add}
+use Rattle.table_rows.specs.Pattern.{Pattern, indexIn, samplesFrom}
+use Rattle.table_rows.proofs.Samples.{samplesFrom-add, samplesFrom-run}
 use Rattle.table_patterns.proofs.Indices.{indices-length}
 use Rattle.table_patterns.specs.Place.{patternIn, Stands}
 use Rattle.table_patterns.specs.Run.{GivesRun}
@@ -21,13 +21,13 @@ use Rattle.table_replay.specs.Enter.{enterRun}
 use Rattle.table_replay.specs.Periods.{Repeats, repeated, Passes, Overfull}
 use Rattle.table_replay.specs.Records.{copied, Written}
 use Rattle.table_replay.specs.Replay.{replay}
-use Rattle.table_replay.specs.Step.{StateOf, NextRun, putStep, Steps}
+use Rattle.table_replay.specs.Step.{StateOf, NextRun, putStep, Steps, Goes}
 use Rattle.table_replay.specs.declared.enter.Tail.{Tail}
 use Rattle.table_replay.specs.declared.periods.Mark.{Mark}
 use Rattle.table_replay.specs.declared.step.ReplayState.{ReplayState}
 use Rattle.table_replay.proofs.Copying.{Place, put, place-below, copy-growth}
 use Rattle.table_replay.proofs.Entering.{below, grown, Told, enter-told, tail-length}
-use Rattle.table_replay.proofs.Passing.{Growth, marked-here, marked-run, marked-still, growth}
+use Rattle.table_replay.proofs.Passing.{Growth, marked-here, marked-run, marked-still, repeated-none, growth}
 use Rattle.table_replay.proofs.Repeating.{stacked, stacked-length}
 use Rattle.table_replay.proofs.Replay.{replay-append, replay-room}
 
@@ -168,3 +168,29 @@ module _ (p : Pattern) (room : ℕ) (at : ReplayState) (r : Run) (g : GivesRun p
             copies = λ q. ⊎-elim (λ z. absurd (omega (arith, rw (z, zero-mul) at v))) (λ a. (a .some, omega (arith, a .more))) (o .repeats .alike);
             written = written;
           }
+
+-- one sample from a state on, and no period
+pub single-goes : (p : Pattern) (room : ℕ) (at : ReplayState) (i : ℕ) {tail : Tail} → at .sample < p .count → indexIn p (at .sample) ≡ i → given tail ≡ enterRun room (at .tail) 1 i →
+    Goes p room at (record { tail = tail; sample = at .sample + 1; mark = at .mark }) (tail .rows)
+single-goes p room at i {tail} h q e =
+    let r : Run = record { count = 1; index = i } in
+    let g : GivesRun p (at .sample) r =
+    record {
+      some = omega arith;
+      within = omega arith;
+      samples = samplesFrom-run p (at .sample) 1 (λ j l. let z : at .sample + j ≡ at .sample = omega arith in rw z q);
+    } in
+    record {
+      some = omega arith;
+      within = omega arith;
+      steps = λ rows w.
+          step-on p room at r g (omega arith) rows w refl e
+          (record {
+            periods = 0;
+            repeats = record { alike = inl refl; within = omega arith };
+            rows = repeated-none (at .mark) tail;
+            sample = omega arith;
+            roomy = run-fits p room at r g (omega arith) rows w refl e .1;
+            marks = inl (refl, refl);
+          });
+    }

@@ -14,6 +14,7 @@ use Rattle.table_replay.specs.Enter.{tailOf}
 use Rattle.table_replay.specs.Records.{Written}
 use Rattle.table_replay.specs.Replay.{replay}
 use Rattle.table_replay.specs.Step.{startOf, StateOf, putStep, Steps, Refuses, Goes}
+use Rattle.table_replay.specs.Within.{Within, FillingWithin}
 use Rattle.table_replay.specs.declared.enter.Tail.{Tail}
 use Rattle.table_replay.specs.declared.step.ReplayState.{ReplayState}
 use Rattle.table_replay.proofs.Entering.{tail-length}
@@ -28,23 +29,11 @@ pub record Replaying (answer : Answer (List Row)) (room : ℕ) (coming : List �
   pub roomy : length rows ≤ room
   pub decides : answer ≡ replay room rows coming
 
--- within pattern p, behind which the samples `rest` follow
-pub record Within (answer : Answer (List Row)) (room : ℕ) (p : Pattern) (rest : List ℕ) (at : ReplayState) : Type 0 where
-  pub rows : List Row
-  pub state : StateOf p room rows at
-  pub within : at .sample ≤ p .count
-  pub decides : answer ≡ replay room rows (samplesFrom p (at .sample) (p .count - at .sample) ++ rest)
-
 -- the same with the rows in front of the run l, which was e
 pub record Filling (answer : Answer (List Row)) (room : ℕ) (coming : List ℕ) (tail : Tail) (e l : List ℕ) : Type 0 where
   pub replaying : Replaying answer room coming tail
   pub records : 2 * room ≤ length e
   pub written : Written e l (replaying .rows)
-
-pub record FillingWithin (answer : Answer (List Row)) (room : ℕ) (p : Pattern) (rest : List ℕ) (at : ReplayState) (e l : List ℕ) : Type 0 where
-  pub within : Within answer room p rest at
-  pub records : 2 * room ≤ length e
-  pub written : Written e l (within .rows)
 
 abbrev pub noRows : Tail
 noRows = record { rows = 0; count = 0; index = 0 }

@@ -3,3 +3,4 @@ pub mod Periods
 pub mod Records
 pub mod Replay
 pub mod Step
+pub mod Within

@@ -3,4 +3,5 @@
 pub mod enter;
 pub mod periods;
 pub mod records;
+pub mod singly;
 pub mod step;

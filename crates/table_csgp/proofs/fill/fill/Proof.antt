@@ -1,7 +1,7 @@
 -- As in `measure`, with the rows so far in front of the run (`Filling`, `FillingWithin`). Within a pattern this is said of whatever the run
 -- was before its first sample was entered. Nothing is refused, since the rows are given.
 use mathlib.Core.Path.{_≡_, refl, ap, sym, subst, _∙_}
-use Prim.Native.Nat.{ℕ, _-_}
+use Prim.Native.Nat.{ℕ, _-_, _/_}
 use native.Mathlib.Omega.{arith}
 use borrow.Author.Needs.{needs}
 use mathlib.Core.List.{List}
@@ -12,8 +12,9 @@ use Rattle.table_patterns.specs.Place.{patternIn}
 use Rattle.table_replay.specs.Step.{NextRun, Steps, Refuses, GivesStep}
 use Rattle.table_replay.specs.declared.step.Stepped.{Stepped}
 use Rattle.table_replay.specs.declared.step.Stepped.the-variants as stepped
+use Rattle.table_replay.specs.Within.{FillingWithin}
 use Rattle.table_replay.proofs.Stepping.{state-room, next-run}
-use Rattle.table_replay.proofs.Within.{Filling, FillingWithin, filling-first, filling-end, filling-in, filling-out, filling-step, within-refused}
+use Rattle.table_replay.proofs.Within.{Filling, filling-first, filling-end, filling-in, filling-out, filling-step, within-refused}
 use Rattle.table_csgp_head.specs.Head.{Whole}
 use Rattle.table_csgp_head.specs.declared.PatternsAt.{PatternsAt}
 use Rattle.table_csgp_head.proofs.Ahead.{ahead-step}
@@ -177,20 +178,40 @@ put-row-requires c κs =
     let t = steps g in
     omega (arith, t .some, state-room (t .state), filled p .records, k .copy-rows .kept .0, same p)
 
+-- behind the rows that were copied and put
+abbrev Put : Type 0
+Put = tie.After-put-row Inv-loop2 μ-loop2 Inv-loop μ-loop
+
+abbrev copying : Put → Copied
+copying c = c .before .before .before .before .before
+
+abbrev going : Put → Going
+going c = copying c .before .before
+
+write-singly-requires : tie.Need-write-singly-requires Inv-loop2 μ-loop2 Inv-loop μ-loop
+write-singly-requires c κs =
+    let put : Put = c .before .before .before in
+    let p = in-pattern (turn (going put)) in
+    (pattern-reached (reading p) .stands, omega (arith, state-room (steps (going put) .state), put .put-row .kept .0, copying put .copy-rows .kept .0, same p))
+
 loop2-less : tie.Need-loop2-less Inv-loop2 μ-loop2 Inv-loop μ-loop
 loop2-less c =
-    let k : Copied = c .before .before .before .before .before .before .before in
-    let g = goes (k .before .before) in
-    omega (arith, g .some, g .within)
+    let singly = c .before .before in
+    let put : Put = singly .before .before .before .before in
+    let g = goes (going put) in
+    omega (arith, g .some, g .within, singly .write-singly .ensures .onward)
 
 loop2-again : tie.Need-loop2-again Inv-loop2 μ-loop2 Inv-loop μ-loop
 loop2-again c =
-    let put = c .before .before in
-    let k : Copied = put .before .before .before .before .before in
-    let g : Going = k .before .before in
-    let i = in-pattern (turn g) .loop2 .inv in (
-      λ e w. filling-step _ (i .0 e w) (goes g) (put .put-row .ensures ∙ rw (k .copy-rows .ensures) refl),
-      put .put-row .kept .0 ∙ k .copy-rows .kept .0 ∙ i .1,
+    let singly = c .before .before in
+    let put : Put = singly .before .before .before .before in
+    let k = copying put in
+    let g = going put in
+    let i = in-pattern (turn g) .loop2 .inv in
+    let records = ap (λ (n : ℕ). n / 2) (put .put-row .kept .0 ∙ k .copy-rows .kept .0 ∙ same (in-pattern (turn g))) in
+    let w = rw records at (singly .write-singly .ensures) in (
+      λ e v. w .keeps _ _ e (filling-step _ (i .0 e v) (goes g) (put .put-row .ensures ∙ rw (k .copy-rows .ensures) refl)),
+      singly .write-singly .kept .1 .1 .1 .0 ∙ put .put-row .kept .0 ∙ k .copy-rows .kept .0 ∙ i .1,
     )
 
 enum-told : tie.Need-enum-told Inv-loop2 μ-loop2 Inv-loop μ-loop
@@ -255,6 +276,7 @@ fill-spec =
     copy-rows-requires
     sub-put-row
     put-row-requires
+    write-singly-requires
     loop2-less
     loop2-again
     enum-told

@@ -13,8 +13,9 @@ use Rattle.table_patterns.specs.Place.{patternIn}
 use Rattle.table_replay.specs.Step.{NextRun, GivesStep}
 use Rattle.table_replay.specs.declared.step.Stepped.{Stepped}
 use Rattle.table_replay.specs.declared.step.Stepped.the-variants as stepped
+use Rattle.table_replay.specs.Within.{Within}
 use Rattle.table_replay.proofs.Stepping.{next-run}
-use Rattle.table_replay.proofs.Within.{Replaying, Within, replaying-first, replaying-end, rows-standing, within-first, within-refused, within-step, within-end}
+use Rattle.table_replay.proofs.Within.{Replaying, replaying-first, replaying-end, rows-standing, within-first, within-refused, within-step, within-end}
 use Rattle.table_csgp_head.specs.Head.{Whole}
 use Rattle.table_csgp_head.specs.declared.PatternsAt.{PatternsAt}
 use Rattle.table_csgp_head.proofs.Ahead.{ahead-step}
@@ -168,14 +169,19 @@ replay-step-requires c κs =
 enum-known-next : tie.Need-enum-known-next Inv-loop μ-loop Inv-replay μ-replay
 enum-known-next c = search needs
 
+enter-singly-requires : tie.Need-enter-singly-requires Inv-loop μ-loop Inv-replay μ-replay
+enter-singly-requires c κs = pattern-reached (reading (in-pattern (c .before .before .before))) .stands
+
 loop-less : tie.Need-loop-less Inv-loop μ-loop Inv-replay μ-replay
-loop-less c = let g = went (c .before .before .before) _ (c .before .next .given .1) in omega (arith, g .some, g .within)
+loop-less c =
+    let g = went (c .before .before .before .before) _ (c .before .before .next .given .1) in
+    omega (arith, g .some, g .within, c .enter-singly .ensures .onward)
 
 loop-again : tie.Need-loop-again Inv-loop μ-loop Inv-replay μ-replay
 loop-again c =
-    let t : Turn = c .before .before .before in
+    let t : Turn = c .before .before .before .before in
     let i = in-pattern t .loop .inv in
-    (within-step _ (i .0) (went t _ (c .before .next .given .1)), i .1)
+    (c .enter-singly .ensures .keeps _ _ (within-step _ (i .0) (went t _ (c .before .before .next .given .1))), i .1)
 
 enum-told : tie.Need-enum-told Inv-loop μ-loop Inv-replay μ-replay
 enum-told c = search needs
@@ -216,6 +222,7 @@ measure-spec =
     run-at-requires
     replay-step-requires
     enum-known-next
+    enter-singly-requires
     loop-less
     loop-again
     enum-told
