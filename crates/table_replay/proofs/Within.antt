@@ -13,7 +13,7 @@ use Rattle.table_rows.proofs.Samples.{samplesFrom-add}
 use Rattle.table_replay.specs.Enter.{tailOf}
 use Rattle.table_replay.specs.Records.{Written}
 use Rattle.table_replay.specs.Replay.{replay}
-use Rattle.table_replay.specs.Step.{startOf, StateOf, putStep, Steps, Refuses, Goes}
+use Rattle.table_replay.specs.Step.{startOf, putStep, Steps, Refuses, Goes}
 use Rattle.table_replay.specs.Within.{Within, FillingWithin}
 use Rattle.table_replay.specs.declared.enter.Tail.{Tail}
 use Rattle.table_replay.specs.declared.step.ReplayState.{ReplayState}

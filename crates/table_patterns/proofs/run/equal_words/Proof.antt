@@ -1,8 +1,7 @@
 -- The loop's invariant: the words so far are the first one (`words-more`).
-use mathlib.Core.Path.{_≡_, sym, _∙_}
+use mathlib.Core.Path.{sym, _∙_}
 use Prim.Native.Nat.{_-_}
 use native.Mathlib.Omega.{arith}
-use borrow.Author.Needs.{needs}
 use Rattle.table_patterns.specs.Run.{SameWords}
 use Rattle.table_patterns.proofs.Words.{words-none, words-more}
 use Rattle.table_patterns.proofs.run.equal_words.Statement.{statement}

@@ -1,14 +1,13 @@
 -- The loop's invariant: the samples so far are entered (`Singly`), and `at` is the place of the next one's index.
-use mathlib.Core.Path.{_≡_, refl, sym, ap, subst, _∙_}
+use mathlib.Core.Path.{_≡_, sym, ap, subst, _∙_}
 use Prim.Native.Nat.{ℕ, _+_, _-_, _*_, _%_, _≤_, _<_}
 use native.Mathlib.Nat.{mul-suc, mod-lt}
 use native.Mathlib.Numerals.{add-one}
 use native.Mathlib.Omega.{arith}
 use borrow.Author.Needs.{needs}
-use Rattle.table_rows.specs.Pattern.{indexIn}
 use Rattle.table_patterns.specs.Place.{patternIn}
 use Rattle.table_patterns.proofs.Runs.{field-end}
-use Rattle.table_replay.specs.Enter.{Entering, GivesSingle}
+use Rattle.table_replay.specs.Enter.{GivesSingle}
 use Rattle.table_replay.specs.Within.{Singly}
 use Rattle.table_replay.specs.declared.singly.Single.{Single}
 use Rattle.table_replay.specs.declared.singly.Single.the-variants as single
