@@ -1,5 +1,6 @@
 -- The answers of parts 1 and 2, case by case, from what the code's tests tell.
 use mathlib.Core.Path.{_≡_, refl, ap, sym, _∙_}
+use mathlib.Core.Bool.{true, false}
 use mathlib.Core.List.{List}
 use mathlib.Core.Option.{none, some}
 use Prim.Native.Nat.{ℕ, _+_, _-_, _<_, _≤_}
@@ -9,7 +10,7 @@ use borrow.Author.Tests.{lt-ltb, le-ltb, le-leb, lt-leb, eq-eqb, ne-eqb}
 use Rattle.base_fields.specs.Answer as answer
 use Rattle.base_fields.specs.Answer.{Answer, given, refused, inputLimit, andThen}
 use Rattle.base_fields.specs.Number.{beAt}
-use Rattle.atom_tree.specs.Atom.{Known, Header, Child, present, lastPlace, header, extended, bySize, headerAt, childAt, endOf, inside, sizedHeader}
+use Rattle.atom_tree.specs.Atom.{Known, Header, Child, present, lastPlace, header, extended, bySize, headerAt, childAt, pastEnd, endOf, inside, sizedHeader}
 use Rattle.base_fields.specs.Span.{Span}
 
 -- a header of n bytes and a known size
@@ -21,6 +22,10 @@ module _ (s : List ℕ) (p size n : ℕ) where
   sized-near h = simp (le-ltb lastPlace (p + size) h)
 
 module _ (s : List ℕ) (p : ℕ) where
+  -- a header by the type that was read
+  pub typed : (size : Known) (n type : ℕ) → type ≡ beAt 4 s (p + 4) → record { type = type; size = size; headerLength = n; body = p + n } ≡ header s p size n
+  typed size n type e = rw e refl
+
   pub extended-cut : length s < p + 16 → refused 2 ≡ extended s p
   extended-cut h = simp (lt-ltb (length s) (p + 16) h)
 
@@ -81,17 +86,13 @@ module _ (s : List ℕ) (p : ℕ) (end : Known) where
   child-long h = simp (lt-ltb inputLimit (length s) h)
 
   module _ (short : length s ≤ inputLimit) where
-    pub child-unknown : end ≡ none → walked s p end ≡ childAt s p end
+    pub child-done : pastEnd p end ≡ true → answer.none ≡ childAt s p end
     unfolding childAt
-    child-unknown e = rw e (simp (le-ltb inputLimit (length s) short))
+    child-done e = simp (le-ltb inputLimit (length s) short, e)
 
-    pub child-done : (limit : ℕ) → end ≡ some limit → limit ≤ p → answer.none ≡ childAt s p end
+    pub child-before : pastEnd p end ≡ false → walked s p end ≡ childAt s p end
     unfolding childAt
-    child-done limit e h = rw e (simp (le-ltb inputLimit (length s) short, le-leb limit p h))
-
-    pub child-before : (limit : ℕ) → end ≡ some limit → p < limit → walked s p (some limit) ≡ childAt s p end
-    unfolding childAt
-    child-before limit e h = rw e (simp (le-ltb inputLimit (length s) short, lt-leb limit p h))
+    child-before e = simp (le-ltb inputLimit (length s) short, e)
 
 pub under-envelope : (s : List ℕ) (envelope : ℕ) (b : Span) → b .size ≤ envelope → present s none b ≡ present s (some envelope) b
 under-envelope s envelope b h = simp (le-ltb envelope (b .size) h)

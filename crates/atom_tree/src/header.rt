@@ -4,7 +4,7 @@ ghost use Prim.Native.Nat.{_+_, _≤_};
 ghost use lib.ListN.{length};
 ghost use Rattle.base_fields.specs.Answer.{inputLimit};
 ghost use Rattle.base_fields.specs.Number.{beAt};
-ghost use Rattle.atom_tree.specs.Atom.{headerAt, header, bySize, extended};
+ghost use Rattle.atom_tree.specs.Atom.{headerAt, bySize, extended};
 ghost use Rattle.atom_tree.specs.Told.{sizeOf, headerOf, toldHeader};
 use super::AtomHeader;
 use super::ReadHeader;
@@ -14,36 +14,36 @@ use base_fields::INPUT_LIMIT;
 // The largest place.
 const LAST_PLACE: u64 = 18446744073709551615;
 
-// The header of an atom of a total size: every header is made here.
-fn header_of(s: &[u8], at: usize, total_size: TotalSize, header_len: u64) -> AtomHeader
-    requires { ⌜ (at + 8 ≤ length (now s)) × (length (now s) ≤ inputLimit) × («header_len» ≤ 16) ⌝ }
-    ensures { λ r. ⌜ headerOf r ≡ header (now (s .entry)) at (sizeOf «total_size») «header_len» ⌝ }
+// The header of an atom of a type and a total size: every header is made here.
+fn header_of(fourcc: u32, at: usize, total_size: TotalSize, header_len: u64) -> AtomHeader
+    requires { ⌜ (at ≤ inputLimit) × («header_len» ≤ 16) ⌝ }
+    ensures { λ r. ⌜ headerOf r ≡ record { type = fourcc; size = sizeOf «total_size»; headerLength = «header_len»; body = at + «header_len» } ⌝ }
 {
     AtomHeader {
-        fourcc: base_fields::read_u32(s, at + 4),
+        fourcc,
         total_size,
         header_len,
         payload_offset: at as u64 + header_len,
     }
 }
 
-// The header at a place that has 8 bytes, by its 32-bit size.
-fn header_by_size(s: &[u8], at: usize) -> ReadHeader
+// The header at a place that has 8 bytes, by the 32-bit size that stands there. The type is read once, for every kind of size.
+pub fn header_by_size(s: &[u8], at: usize, size: u32) -> ReadHeader
     requires { ⌜ (at + 8 ≤ length (now s)) × (length (now s) ≤ inputLimit) ⌝ }
-    ensures { λ r. ⌜ toldHeader r ≡ bySize (now (s .entry)) at (beAt 4 (now (s .entry)) at) ⌝ }
+    ensures { λ r. ⌜ toldHeader r ≡ bySize (now (s .entry)) at size ⌝ }
 {
-    let size = base_fields::read_u32(s, at);
+    let fourcc = base_fields::read_u32(s, at + 4);
     match size {
-        0 => ReadHeader::Header(header_of(s, at, TotalSize::Open, 8)),
-        1 => extended_header(s, at),
+        0 => ReadHeader::Header(header_of(fourcc, at, TotalSize::Open, 8)),
+        1 => extended_header(s, at, fourcc),
         2..=7 => ReadHeader::Refused(3),
-        _ => ReadHeader::Header(header_of(s, at, TotalSize::Bytes(size as u64), 8)),
+        _ => ReadHeader::Header(header_of(fourcc, at, TotalSize::Bytes(size as u64), 8)),
     }
 }
 
 // The header of an atom whose size stands in the 8 bytes behind the type.
-fn extended_header(s: &[u8], at: usize) -> ReadHeader
-    requires { ⌜ (at + 8 ≤ length (now s)) × (length (now s) ≤ inputLimit) ⌝ }
+fn extended_header(s: &[u8], at: usize, fourcc: u32) -> ReadHeader
+    requires { ⌜ (at + 8 ≤ length (now s)) × (length (now s) ≤ inputLimit) × (fourcc ≡ beAt 4 (now s) (at + 4)) ⌝ }
     ensures { λ r. ⌜ toldHeader r ≡ extended (now (s .entry)) at ⌝ }
 {
     if s.len() < at + 16 {
@@ -56,7 +56,7 @@ fn extended_header(s: &[u8], at: usize) -> ReadHeader
     if LAST_PLACE - (at as u64) < size {
         return ReadHeader::Refused(5);
     }
-    ReadHeader::Header(header_of(s, at, TotalSize::Bytes(size), 16))
+    ReadHeader::Header(header_of(fourcc, at, TotalSize::Bytes(size), 16))
 }
 
 // The header at a place; Nothing where no byte stands there.
@@ -74,5 +74,5 @@ pub fn read_atom_header(s: &[u8], at: u64) -> ReadHeader
     if n < place + 8 {
         return ReadHeader::Refused(1);
     }
-    header_by_size(s, place)
+    header_by_size(s, place, base_fields::read_u32(s, place))
 }

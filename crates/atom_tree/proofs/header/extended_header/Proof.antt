@@ -1,9 +1,10 @@
 -- 2, then 4, then 5; else the size makes a header of 16 bytes.
 use mathlib.Core.Path.{ap, _∙_}
+use mathlib.Core.Option.{some}
 use native.Mathlib.Omega.{arith}
 use Rattle.base_fields.specs.Answer.{given}
 use borrow.Author.Needs.{needs}
-use Rattle.atom_tree.proofs.Cases.{extended-cut, extended-small, extended-sized, sized-far, sized-near}
+use Rattle.atom_tree.proofs.Cases.{typed, extended-cut, extended-small, extended-sized, sized-far, sized-near}
 use Rattle.atom_tree.proofs.header.extended_header.Statement.{statement}
 use Rattle.atom_tree.proofs.header.extended_header.Tie as tie
 
@@ -43,7 +44,8 @@ returns-4 c =
     let read = c .before .before .before in
     let a = read .before .before .before .args in
     let size = read .read-u64 .result in
-    ap given (c .header-of .ensures) ∙ sized-near (a .s .now) (a .at) size 16 (omega arith)
+    ap given (c .header-of .ensures ∙ typed (a .s .now) (a .at) (some size) 16 (a .fourcc) (read .before .before .before .pre .2))
+    ∙ sized-near (a .s .now) (a .at) size 16 (omega arith)
     ∙ extended-sized (a .s .now) (a .at) (read .before .if1 .left) size (read .read-u64 .ensures .0) (c .before .before .if2 .left)
 
 pub extended-header-spec : {M : Type 1} → statement M
