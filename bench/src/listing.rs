@@ -1,66 +1,22 @@
-//! The cue listing: a film of a million samples beside the same listing by the Rust's calls, `listing cue_listing ours|rust|none`, and bodies made
-//! to be costly: `listing hostile NAME CALLS` lists one of them, `listing answer NAME` says its answer. A program of its own: a second caller of the
-//! Rust's functions in `bench` would change what the compiler makes of them there.
+//! The cue listing: a film of a million samples beside the same listing by the Rust's calls, and bodies made to be costly:
+//! `listing BODY BYTES ANSWER`.
 
+use crate::bench::Bench;
+use crate::bench::calls::list;
+use crate::bench::inputs::*;
 use crate::{atom, sample_groups};
 use std::hint::black_box;
 use std::io::Cursor;
 
-unsafe extern "C" {
-    fn film_cue_listing(body: *const u8, len: usize, kind: u32, rows: *mut u32, rows_len: usize, listing: *mut u8, listing_len: usize, out: *mut u64) -> u32;
-}
-
-fn ours(body: &[u8], kind: &[u8; 4], rows: &mut [u32], listing: &mut [u8]) -> Result<[u64; 2], u32> {
-    let mut out = [0u64; 2];
-    let number = u32::from_be_bytes(*kind);
-    let status =
-        unsafe { film_cue_listing(body.as_ptr(), body.len(), number, rows.as_mut_ptr(), rows.len(), listing.as_mut_ptr(), listing.len(), out.as_mut_ptr()) };
-    if status == 0 { Ok(black_box(out)) } else { Err(status) }
-}
-
-fn atom_of(kind: &[u8; 4], body: &[u8]) -> Vec<u8> {
-    [&(body.len() as u32 + 8).to_be_bytes(), &kind[..], body].concat()
-}
-
-/// A csgp with the given code of the index width (0: 4 bits, 1: 8 bits, 2: 16 bits); counts and lengths have 32 bits.
-fn csgp(kind: &[u8; 4], code: u8, patterns: &[(u32, Vec<u16>)]) -> Vec<u8> {
-    let mut s = [[0, 0, 0, 0x3c | code], *kind, (patterns.len() as u32).to_be_bytes()].concat();
-    for (count, indices) in patterns {
-        s.extend([(indices.len() as u32).to_be_bytes(), count.to_be_bytes()].concat());
-    }
-    let indices: Vec<u16> = patterns.iter().flat_map(|(_, indices)| indices.clone()).collect();
-    match code {
-        0 => s.extend(nibbles(&indices)),
-        1 => s.extend(indices.iter().map(|i| *i as u8)),
-        _ => s.extend(indices.iter().flat_map(|i| i.to_be_bytes())),
-    }
-    s
-}
-
-fn nibbles(indices: &[u16]) -> Vec<u8> {
-    indices.chunks(2).map(|pair| (pair[0] << 4 | pair.get(1).unwrap_or(&0)) as u8).collect()
-}
-
-/// An sgpd of version 1 whose entries have a length before each of them.
-fn sgpd(kind: &[u8; 4], entries: &[Vec<u8>]) -> Vec<u8> {
-    let mut s = [[1, 0, 0, 0], *kind, [0; 4], (entries.len() as u32).to_be_bytes()].concat();
-    s.extend(entries.iter().flat_map(|e| [&(e.len() as u32).to_be_bytes()[..], e].concat()));
-    s
-}
-
-fn body(table: &[u8], sgpd: &[u8]) -> Vec<u8> {
-    [atom_of(b"csgp", table), atom_of(b"sgpd", sgpd)].concat()
-}
-
 /// A million samples of type roll in a hundred patterns: most of one index, every tenth with one sample in a hundred picked out.
-fn million() -> Vec<u8> {
-    let pattern = |k: u16| {
+fn million_samples() -> Vec<u8> {
+    let pattern = |k: u32| {
         let mut indices = vec![k % 4; if k % 10 == 0 { 100 } else { 1 }];
         indices[0] = 1 + k % 3;
         (10_000, indices)
     };
-    let patterns: Vec<(u32, Vec<u16>)> = (0..100).map(pattern).collect();
-    body(&csgp(b"roll", 0, &patterns), &sgpd(b"roll", &[vec![0xff, 0xfe], vec![0, 3], vec![0xff, 0xfe]]))
+    let patterns: Vec<(u32, Vec<u32>)> = (0..100).map(pattern).collect();
+    body(&csgp(b"roll", 0, &patterns), &sgpd_of(b"roll", &[vec![0xff, 0xfe], vec![0, 3], vec![0xff, 0xfe]]))
 }
 
 fn put(out: &mut Vec<u8>, mut n: u64) {
@@ -108,22 +64,14 @@ fn by_rust(s: &[u8]) -> Vec<u8> {
     out
 }
 
-fn listed(side: &str) {
-    let s = black_box(million());
+pub fn million(bench: &mut Bench) {
+    let s = black_box(million_samples());
     let mut rows = vec![0u32; 8192];
     let mut listing = vec![0u8; 1 << 15];
-    match side {
-        "ours" => drop(ours(&s, b"roll", &mut rows, &mut listing).unwrap()),
-        "rust" => drop(black_box(by_rust(&s))),
-        // not counted: both give the same bytes
-        "same" => {
-            let [length, count] = ours(&s, b"roll", &mut rows, &mut listing).unwrap();
-            assert_eq!(listing[..length as usize], by_rust(&s));
-            println!("{length} bytes, {count} rows");
-        }
-        _ => {}
-    }
-    black_box((rows, listing));
+    let [length, _] = list(&s, b"roll", &mut rows, &mut listing).unwrap();
+    assert_eq!(listing[..length as usize], by_rust(&s));
+    bench.measure("entry\tcue_listing, 1,000,000 samples\tours".into(), || drop(black_box(list(&s, b"roll", &mut rows, &mut listing).unwrap())));
+    bench.measure("entry\tcue_listing, 1,000,000 samples\trust".into(), || drop(black_box(by_rust(&s))));
 }
 
 /// What the program cue holds.
@@ -132,21 +80,21 @@ const ROWS: u32 = 2_048;
 
 /// So many equal entries, as long as the body allows, in turn over all rows; `odd`: the last byte of the last entry is another.
 fn in_turn(kind: &[u8; 4], entries: usize, front: &[u8], step: usize, odd: bool) -> Vec<u8> {
-    equal(kind, entries, &[(ROWS, (1..=entries as u16).collect())], front, step, odd)
+    equal(kind, entries, &[(ROWS, (1..=entries as u32).collect())], front, step, odd)
 }
 
 /// The first of equal entries once, then the others in turn: no row has the index that its stretch began with.
-fn late(kind: &[u8; 4], entries: u16, front: &[u8], step: usize) -> Vec<u8> {
+fn late(kind: &[u8; 4], entries: u32, front: &[u8], step: usize) -> Vec<u8> {
     equal(kind, entries as usize, &[(1, vec![1]), (ROWS - 1, (2..=entries).collect())], front, step, false)
 }
 
 /// The same in one pattern of a third of the rows, so that measuring passes over no period of it.
-fn written_out(kind: &[u8; 4], entries: u16, front: &[u8], step: usize) -> Vec<u8> {
-    let turns = (0..ROWS as u16 / 3).map(|k| 2 + k % (entries - 1));
+fn written_out(kind: &[u8; 4], entries: u32, front: &[u8], step: usize) -> Vec<u8> {
+    let turns = (0..ROWS / 3).map(|k| 2 + k % (entries - 1));
     equal(kind, entries as usize, &[(ROWS, [1].into_iter().chain(turns).collect())], front, step, false)
 }
 
-fn equal(kind: &[u8; 4], entries: usize, patterns: &[(u32, Vec<u16>)], front: &[u8], step: usize, odd: bool) -> Vec<u8> {
+fn equal(kind: &[u8; 4], entries: usize, patterns: &[(u32, Vec<u32>)], front: &[u8], step: usize, odd: bool) -> Vec<u8> {
     let table = csgp(kind, if entries < 16 { 0 } else { 1 }, patterns);
     let room = (BODY - table.len() - 16 - 16 - 4 * entries) / entries;
     let length = front.len() + (room - front.len()) / step * step;
@@ -156,30 +104,30 @@ fn equal(kind: &[u8; 4], entries: usize, patterns: &[(u32, Vec<u16>)], front: &[
     if odd {
         *all.last_mut().unwrap().last_mut().unwrap() ^= 1;
     }
-    body(&table, &sgpd(kind, &all))
+    body(&table, &sgpd_of(kind, &all))
 }
 
 /// A pattern of a million indices, one of them another, over 4,000,000,000 samples; the two entries are alike or not.
 fn odd_one_out(alike: bool) -> Vec<u8> {
     let mut indices = vec![1; 1_000_000];
     indices[700_000] = 2;
-    body(&csgp(b"roll", 0, &[(4_000_000_000, indices)]), &sgpd(b"roll", &[vec![0, 1], vec![0, if alike { 1 } else { 2 }]]))
+    body(&csgp(b"roll", 0, &[(4_000_000_000, indices)]), &sgpd_of(b"roll", &[vec![0, 1], vec![0, if alike { 1 } else { 2 }]]))
 }
 
 /// Like entries with lengths of their own, two from each sixteenth of them, farthest behind its landmark: each row looks its entry up.
 fn far(kind: &[u8; 4], entry: &[u8]) -> Vec<u8> {
     let count = (BODY - 1_500) / (4 + entry.len());
     let apart = count.div_ceil(16);
-    let turns = (0..(ROWS as usize + 1) / 3).map(|k| ((k % 16 + 1) * apart - k / 16 % 2).min(count - k % 2) as u16).collect();
-    body(&csgp(kind, 2, &[(ROWS, turns)]), &sgpd(kind, &vec![entry.to_vec(); count]))
+    let turns = (0..(ROWS as usize + 1) / 3).map(|k| ((k % 16 + 1) * apart - k / 16 % 2).min(count - k % 2) as u32).collect();
+    body(&csgp(kind, 2, &[(ROWS, turns)]), &sgpd_of(kind, &vec![entry.to_vec(); count]))
 }
 
 /// As many patterns of one sample as fit, five after the other with one index, of 8 equal entries.
 fn short_patterns(kind: &[u8; 4]) -> Vec<u8> {
-    let count = 5 * ROWS as u16 - 4;
-    let indices: Vec<u16> = (0..count).map(|k| 1 + k / 5 % 8).collect();
-    let table = [&[0, 0, 0, 0], &kind[..], &(count as u32).to_be_bytes(), &vec![0x11; count as usize][..], &nibbles(&indices)].concat();
-    body(&table, &sgpd(kind, &vec![vec![0; (BODY - table.len() - 64) / 8]; 8]))
+    let count = 5 * ROWS - 4;
+    let indices: Vec<u32> = (0..count).map(|k| 1 + k / 5 % 8).collect();
+    let table = [&[0, 0, 0, 0], &kind[..], &count.to_be_bytes(), &vec![0x11; count as usize][..], &half_bytes(&indices)].concat();
+    body(&table, &sgpd_of(kind, &vec![vec![0; (BODY - table.len() - 64) / 8]; 8]))
 }
 
 const HOSTILE: [&str; 29] = [
@@ -227,7 +175,7 @@ fn hostile_body(name: &str) -> ([u8; 4], Vec<u8>) {
     let jumps = |kind: &[u8; 4], entry: &[u8]| {
         let entries = vec![entry.to_vec(); 16_200 / (4 + entry.len()).max(4)];
         let last = entries.len().min(4000);
-        (*kind, body(&csgp(kind, 2, &[(ROWS, vec![1, last as u16])]), &sgpd(kind, &entries[..last])))
+        (*kind, body(&csgp(kind, 2, &[(ROWS, vec![1, last as u32])]), &sgpd_of(kind, &entries[..last])))
     };
     match name {
         "raw-2" => raw(2, false),
@@ -263,38 +211,17 @@ fn hostile_body(name: &str) -> ([u8; 4], Vec<u8>) {
     }
 }
 
-/// One of the bodies, listed so often.
-fn hostile(name: &str, calls: u32) {
-    let (kind, s) = black_box(hostile_body(name));
-    let cue = !name.starts_with("odd");
-    assert!(!cue || s.len() <= BODY, "{} bytes", s.len());
-    let mut rows = vec![0u32; if cue { 2 * ROWS as usize } else { 40_000 }];
-    let mut listing = vec![0u8; if cue { BODY } else { 1 << 20 }];
-    for _ in 0..calls {
-        drop(black_box(ours(&s, &kind, &mut rows, &mut listing)));
-    }
-    black_box((rows, listing));
-}
-
-/// The body's length and the answer, as two cells of a table.
-fn answer(name: &str) {
-    let (kind, s) = hostile_body(name);
-    let (mut rows, mut listing) = (vec![0u32; if name.starts_with("odd") { 40_000 } else { 2 * ROWS as usize }], vec![0u8; BODY.max(1 << 20)]);
-    let room = if name.starts_with("odd") { 1 << 20 } else { BODY };
-    match ours(&s, &kind, &mut rows, &mut listing[..room]) {
-        Ok([length, count]) => println!("{} | {count} rows, {length} bytes", s.len()),
-        Err(n) => println!("{} | refused {n}", s.len()),
-    }
-}
-
-pub fn main() {
-    let words: Vec<String> = std::env::args().skip(1).collect();
-    let words: Vec<&str> = words.iter().map(String::as_str).collect();
-    match words[..] {
-        ["cue_listing", side] => listed(side),
-        ["hostile"] => println!("{}", HOSTILE.join(" ")),
-        ["hostile", name, calls] => hostile(name, calls.parse().unwrap()),
-        ["answer", name] => answer(name),
-        _ => panic!("listing cue_listing ours|rust|none"),
+pub fn run(bench: &mut Bench) {
+    for name in HOSTILE {
+        let (kind, s) = black_box(hostile_body(name));
+        let cue = !name.starts_with("odd");
+        assert!(!cue || s.len() <= BODY, "{} bytes", s.len());
+        let mut rows = vec![0u32; if cue { 2 * ROWS as usize } else { 40_000 }];
+        let mut listing = vec![0u8; if cue { BODY } else { 1 << 20 }];
+        let answer = match list(&s, &kind, &mut rows, &mut listing) {
+            Ok([length, count]) => format!("{count} rows, {length} bytes"),
+            Err(n) => format!("refused {n}"),
+        };
+        bench.once(format!("listing\t{name}\t{}\t{answer}", s.len()), || drop(black_box(list(&s, &kind, &mut rows, &mut listing))));
     }
 }

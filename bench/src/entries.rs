@@ -1,0 +1,231 @@
+//! Every entry of include/film_index.h on one input, by this library and by the Rust. The Rust is called by pointers that the compiler does not look
+//! through, as it does not look into the library.
+
+use crate::bench::calls::*;
+use crate::bench::inputs::*;
+use crate::bench::{Bench, listing};
+use crate::sample_groups::*;
+use crate::{atom, standalone};
+use std::hint::black_box;
+use std::io::{Cursor, Seek, SeekFrom};
+
+/// Inputs of atoms are kept for good, so that one type of source has them all.
+type Source = Cursor<&'static [u8]>;
+
+impl Bench {
+    fn ours(&mut self, name: &str, work: impl FnMut()) {
+        self.measure(format!("entry\t{name}\tours"), work);
+    }
+
+    fn rust(&mut self, name: &str, work: impl FnMut()) {
+        self.measure(format!("entry\t{name}\trust"), work);
+    }
+
+    /// A reader of whole inputs beside a function of the Rust.
+    fn beside<T>(&mut self, name: &str, s: Vec<u8>, ours: Reader, rust: fn(&[u8]) -> standalone::Result<T>) {
+        let (s, rust) = (black_box(s), black_box(rust));
+        let mut out = [0; 5];
+        assert_eq!(read_into(ours, &s, &mut out), 0);
+        self.ours(name, || drop(read_into(ours, &s, &mut out)));
+        self.rust(name, || drop(black_box(rust(&s).unwrap())));
+    }
+
+    /// A part of an entry by its number, where the Rust decodes the entry and takes the part; and all parts, where it keeps what it decoded.
+    fn by_number<T, P>(&mut self, name: &str, s: Vec<u8>, ours: Numbered, rust: fn(&[u8]) -> standalone::Result<T>, parts: fn(&T) -> &[P]) {
+        let (s, rust, parts) = (black_box(s), black_box(rust), black_box(parts));
+        let count = parts(&rust(&s).unwrap()).len();
+        let one = format!("{name}, one of {count}");
+        let mut out = [0; 2];
+        self.ours(&one, || drop(numbered_into(ours, &s, black_box(count as u32 / 2), &mut out)));
+        self.rust(&one, || drop(black_box(&parts(&rust(&s).unwrap())[black_box(count / 2)])));
+        let all = format!("{name}, all {count}");
+        self.ours(&all, || (0..count as u32).for_each(|k| drop(numbered_into(ours, &s, k, &mut out))));
+        self.rust(&all, || parts(&rust(&s).unwrap()).iter().for_each(|p| drop(black_box(p))));
+    }
+
+    fn atoms(&mut self) {
+        let header = black_box(atom::read_atom_header::<Source> as fn(&mut Source) -> standalone::Result<Option<atom::AtomHeader>>);
+        let inputs = [("32-bit size", atom_of(b"free", &[0; 64])), ("64-bit size", extended_atom(b"free", &[0; 64])), ("open", [0, 0, 0, 0, b'm', b'd', b'a', b't'].to_vec())];
+        for (kind, s) in inputs {
+            let s: &[u8] = black_box(s).leak();
+            let name = format!("read_atom_header, {kind}");
+            let mut out = [0; 5];
+            self.ours(&name, || drop(black_box(unsafe { film_read_atom_header(s.as_ptr(), s.len(), 0, out.as_mut_ptr()) })));
+            self.rust(&name, || drop(black_box(header(&mut Cursor::new(s)).unwrap())));
+        }
+        // a source of its own type, so that the walk's header reader has one caller, as in a program that only walks
+        let s = black_box(atoms(1000));
+        assert_eq!(walk(&s), 1000);
+        self.ours("next_child, a walk over 1,000", || drop(black_box(walk(&s))));
+        let end = s.len() as u64;
+        self.rust("next_child, a walk over 1,000", || atom::walk_children(&mut Cursor::new(&s), Some(end), |_, h| Ok(drop(black_box(h)))).unwrap());
+
+        let payload = black_box(atom::read_payload::<Source> as fn(&mut Source, &atom::AtomHeader) -> standalone::Result<Vec<u8>>);
+        let bounded = black_box(atom::read_payload_bounded::<Source> as fn(&mut Source, &atom::AtomHeader, u64) -> standalone::Result<Vec<u8>>);
+        for size in [16, 4096] {
+            let s: &[u8] = black_box(atom_of(b"sbgp", &vec![7; size])).leak();
+            let mut out = [0; 2];
+            let body = |r: &mut Source| {
+                let h = header(r).unwrap().unwrap();
+                r.seek(SeekFrom::Start(h.payload_offset)).unwrap();
+                h
+            };
+            let name = format!("read_payload, {size} bytes");
+            self.ours(&name, || drop(black_box(unsafe { film_read_payload(s.as_ptr(), s.len(), 0, out.as_mut_ptr()) })));
+            self.rust(&name, || {
+                let mut r = Cursor::new(s);
+                let h = body(&mut r);
+                drop(black_box(payload(&mut r, &h).unwrap()));
+            });
+            let name = format!("read_payload_bounded, {size} bytes");
+            self.ours(&name, || drop(black_box(unsafe { film_read_payload_bounded(s.as_ptr(), s.len(), 0, 5000, out.as_mut_ptr()) })));
+            self.rust(&name, || {
+                let mut r = Cursor::new(s);
+                let h = body(&mut r);
+                drop(black_box(bounded(&mut r, &h, 5000).unwrap()));
+            });
+        }
+    }
+
+    fn table(&mut self, name: &str, s: Vec<u8>, ours: Parser, needed: Reader, rust: fn(&[u8]) -> standalone::Result<SampleToGroup>) {
+        let (s, rust) = (black_box(s), black_box(rust));
+        let count = rust(&s).unwrap().entries.len();
+        let mut run = vec![0; 2 * count];
+        assert_eq!(parse(ours, &s, &mut run), (0, count as u64));
+        let parsed = format!("parse_{name}, {count} rows");
+        self.ours(&parsed, || drop(parse(ours, &s, &mut run)));
+        self.rust(&parsed, || drop(black_box(rust(&s).unwrap())));
+        let counted = format!("{}_rows_needed, {count} rows", &name[..4]);
+        if !name.contains("16") && !name.contains("32") {
+            let counted = if name.len() > 4 { format!("{counted}, {}", &name[6..]) } else { counted };
+            let mut out = [0; 5];
+            self.ours(&counted, || drop(read_into(needed, &s, &mut out)));
+            self.rust(&counted, || drop(black_box(rust(&s).unwrap().entries.len())));
+        }
+    }
+
+    fn tables(&mut self) {
+        self.table("sbgp", sbgp(1000), film_parse_sbgp, film_sbgp_rows_needed, parse_sbgp);
+        for (code, width) in [(0, 4), (1, 8), (2, 16), (3, 32)] {
+            let long = (0..300).map(|k| 1 + k / 3 % 9).collect();
+            for (shape, pattern) in [("uniform", (9000, vec![1])), ("alternating", (9000, vec![1, 2])), ("300 indices by threes", (9000, long))] {
+                self.table(&format!("csgp, {width} bits, {shape}"), csgp(b"rap ", code, &[pattern]), film_parse_csgp, film_csgp_rows_needed, parse_csgp);
+            }
+        }
+        let table = black_box(parse_sbgp(&sbgp(1000)).unwrap());
+        let rows: Vec<u32> = black_box(table.entries.iter().flat_map(|e| [e.sample_count, e.group_description_index]).collect());
+        let last = covered(&rows) as u32 - 1;
+        let index = black_box(SampleToGroup::group_index_for_sample as fn(&SampleToGroup, u32) -> u32);
+        for (place, sample) in [("first", 0), ("middle", last / 2), ("last", last), ("past the end", last + 1)] {
+            let name = format!("group_index_for_sample, {place} of 1,000 rows");
+            self.ours(&name, || drop(look_up(&rows, black_box(sample))));
+            self.rust(&name, || drop(black_box(index(&table, black_box(sample)))));
+        }
+        let sum = black_box(SampleToGroup::covered_samples as fn(&SampleToGroup) -> u64);
+        self.ours("covered_samples, 1,000 rows", || drop(covered(&rows)));
+        self.rust("covered_samples, 1,000 rows", || drop(black_box(sum(&table))));
+    }
+
+    fn descriptions(&mut self) {
+        let parsed = black_box(parse_sgpd as fn(&[u8]) -> standalone::Result<SampleGroupDescription>);
+        let entry = black_box(SampleGroupDescription::entry as for<'a> fn(&'a SampleGroupDescription, u32) -> Option<&'a SampleGroupDescriptionEntry>);
+        for (kind, prefixed) in [("one length", false), ("lengths", true)] {
+            let s = black_box(sgpd(1000, prefixed));
+            self.beside(&format!("parse_sgpd, 1,000 entries, {kind}"), s.clone(), film_parse_sgpd, parse_sgpd);
+            let mut out = [0; 2];
+            for index in [1, 500, 1000] {
+                let name = format!("entry_place, {index} of 1,000, {kind}");
+                self.ours(&name, || drop(numbered_into(film_entry_place, &s, black_box(index), &mut out)));
+                self.rust(&name, || drop(black_box(entry(&parsed(&s).unwrap(), black_box(index)))));
+            }
+            let name = format!("entry_place, all 1,000, {kind}");
+            self.ours(&name, || (1..=1000).for_each(|k| drop(numbered_into(film_entry_place, &s, k, &mut out))));
+            self.rust(&name, || {
+                let kept = parsed(&s).unwrap();
+                (1..=1000).for_each(|k| drop(black_box(entry(&kept, k))));
+            });
+            let split = black_box(split_csgp_index as fn(u32) -> CsgpIndex);
+            for (side, raw) in [("film-wide", 1000), ("fragment's", 0x8000_0000 | 1000)] {
+                let name = format!("described_place, {side} 1,000, {kind}");
+                self.ours(&name, || assert_eq!(described(&s, &s, black_box(raw)).0, 0));
+                self.rust(&name, || {
+                    let (film, fragment) = (parsed(&s).unwrap(), parsed(&s).unwrap());
+                    let named = split(black_box(raw));
+                    drop(black_box(entry(if named.fragment_local { &fragment } else { &film }, named.index)));
+                });
+            }
+        }
+        let split = black_box(split_csgp_index as fn(u32) -> CsgpIndex);
+        let mut out = [0; 2];
+        self.ours("split_csgp_index", || drop(black_box(unsafe { film_split_csgp_index(black_box(0x8000_0007), out.as_mut_ptr()) })));
+        self.rust("split_csgp_index", || drop(black_box(split(black_box(0x8000_0007)))));
+        self.ours("rate_of_point", || drop(black_box(unsafe { film_rate_of_point(black_box(4_000_000_000), black_box(75)) })));
+    }
+
+    fn decoders(&mut self) {
+        self.beside("decode_roll", vec![0xff, 0xfe], film_decode_roll, decode_roll);
+        self.beside("decode_prol", vec![0, 3], film_decode_prol, decode_prol);
+        self.beside("decode_rap", vec![0x83], film_decode_rap, decode_rap);
+        self.beside("decode_tele", vec![0x80], film_decode_tele, decode_tele);
+        self.beside("decode_sap", vec![0x82], film_decode_sap, decode_sap);
+        self.beside("decode_rash, 100 points", rash(100), film_decode_rash, decode_rash);
+        self.beside("decode_alst, 100 offsets, 50 pieces", alst(100, 50), film_decode_alst, decode_alst);
+        self.by_number("rash_operation_point", rash(100), film_rash_operation_point, decode_rash, |r| &r.operation_points);
+        self.by_number("alst_sample_offset", alst(100, 50), film_alst_sample_offset, decode_alst, |a| &a.sample_offsets);
+        self.by_number("alst_piece", alst(50, 100), film_alst_piece, decode_alst, |a| &a.pieces);
+    }
+
+    /// Two entries: the Rust decodes both and compares what it decoded.
+    fn likeness<T: PartialEq>(&mut self, name: &str, kind: &[u8; 4], a: Vec<u8>, b: Vec<u8>, decode: fn(&[u8]) -> standalone::Result<T>) {
+        let (a, b, decode) = (black_box(a), black_box(b), black_box(decode));
+        let same = decode(&a).unwrap() == decode(&b).unwrap();
+        assert_eq!(alike(kind, &a, &b), (0, same as u64));
+        let name = format!("decode_alike, {name}, {}", if same { "alike" } else { "unlike" });
+        self.ours(&name, || drop(alike(kind, &a, &b)));
+        self.rust(&name, || drop(black_box(decode(&a).unwrap() == decode(&b).unwrap())));
+    }
+
+    fn likenesses(&mut self) {
+        fn bytes(s: &[u8]) -> standalone::Result<&[u8]> {
+            Ok(s)
+        }
+        for second in [vec![0, 3], vec![0, 4]] {
+            self.likeness("roll", b"roll", vec![0, 3], second.clone(), decode_roll);
+            self.likeness("rap", b"rap ", vec![3], second[1..].to_vec(), decode_rap);
+            self.likeness("tele", b"tele", vec![0x80], vec![0x80 ^ second[1] << 5], decode_tele);
+            self.likeness("sap", b"sap ", vec![3], second[1..].to_vec(), decode_sap);
+        }
+        for points in [2, 100] {
+            let s = rash(points);
+            self.likeness(&format!("rash of {points} points"), b"rash", s.clone(), s.clone(), decode_rash);
+            self.likeness(&format!("rash of {points} points"), b"rash", s.clone(), odd_end(&s), decode_rash);
+        }
+        for offsets in [2, 100] {
+            let s = alst(offsets, 50);
+            self.likeness(&format!("alst of {offsets} offsets"), b"alst", s.clone(), s.clone(), decode_alst);
+            self.likeness(&format!("alst of {offsets} offsets"), b"alst", s.clone(), odd_end(&s), decode_alst);
+        }
+        for size in [8, 1000] {
+            // the Rust has no decoder: its two lent slices are compared, by what the machine has for that
+            let s = vec![7; size];
+            let bytes: fn(&[u8]) -> standalone::Result<&[u8]> = bytes;
+            for t in [s.clone(), odd_end(&s)] {
+                let (a, b, bytes) = (black_box(s.clone()), black_box(t), black_box(bytes));
+                let same = a == b;
+                assert_eq!(alike(b"abcd", &a, &b), (0, same as u64));
+                let name = format!("decode_alike, {size} bytes of an unknown type, {}", if same { "alike" } else { "unlike" });
+                self.ours(&name, || drop(alike(b"abcd", &a, &b)));
+                self.rust(&name, || drop(black_box(bytes(&a).unwrap() == bytes(&b).unwrap())));
+            }
+        }
+    }
+}
+
+pub fn run(bench: &mut Bench) {
+    bench.atoms();
+    bench.tables();
+    bench.descriptions();
+    bench.decoders();
+    bench.likenesses();
+    listing::million(bench);
+}
