@@ -14,10 +14,10 @@ use Rattle.base_fields.proofs.Bits.{Bytes, beAt-below}
 use Rattle.base_fields.proofs.Bytes.{beAt-one}
 use Rattle.group_entries.specs.Decoded.{Point, OutputPair, offsetAt, pairAt, rollCount, offsetsEnd, Rap as RapFields, Sap as SapFields, Rash as RashFields, Alst as AlstFields, rapOf, teleOf, sapOf, rawOf, signed16, topBit, pointCount, pointsEnd, pointAt, upTo}
 use Rattle.group_entries.proofs.Extent.{rashAt, alstAt, single, several}
-use Rattle.group_alike.specs.Front.{Agree, frontSize}
+use Rattle.group_alike.specs.Front.{Over, Agree, frontSize}
 use Rattle.group_entries.specs.declared.EntryLayout.{EntryLayout}
 use Rattle.group_entries.specs.declared.EntryLayout.the-variants.{Roll, Rap, Tele, Sap, Rash, Alst, Raw}
-use Rattle.group_alike.proofs.Over.{Over, over-of-be, be-of-over, each-of-upTo, upTo-of-each}
+use Rattle.group_alike.proofs.Over.{over-of-be, be-of-over, each-of-upTo, upTo-of-each}
 use Rattle.group_entries.proofs.Values.{valueOf, Sized}
 
 signed16-one : (x y : ℕ) → x < 65536 → y < 65536 → signed16 x ≡ signed16 y → x ≡ y

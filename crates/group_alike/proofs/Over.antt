@@ -8,10 +8,15 @@ use lib.ListN.{getD}
 use Rattle.base_fields.specs.Number.{beAt}
 use Rattle.base_fields.proofs.Bits.{Bytes}
 use Rattle.group_entries.specs.Decoded.{upTo}
+use Rattle.group_alike.specs.Front.{Over}
 
--- the w bytes from place p agree
-abbrev pub Over : List ℕ → List ℕ → ℕ → ℕ → Type 0
-Over a b p w = (i : ℕ) → p ≤ i → i < p + w → getD a i 0 ≡ getD b i 0
+-- the same before a place and from it on
+pub over-join : (a b : List ℕ) (p v w : ℕ) → Over a b p v → Over a b (p + v) w → Over a b p (v + w)
+over-join a b p v w o u i h l =
+    elim (decLt i (p + v)) [
+      | yes m ↦ o i h m
+      | no m ↦ u i (omega arith) (omega arith)
+    ]
 
 pub over-of-be : (w : ℕ) (a b : List ℕ) (p : ℕ) → Bytes a → Bytes b → beAt w a p ≡ beAt w b p → Over a b p w
 unfolding beAt

@@ -1,5 +1,5 @@
 -- The bytes at the front of an entry that decide its value, and which of their bits.
-use Prim.Native.Nat.{ℕ, _+_, _*_, _/_, _%_, _<_}
+use Prim.Native.Nat.{ℕ, _+_, _*_, _/_, _%_, _<_, _≤_}
 use mathlib.Core.Path.{_≡_}
 use mathlib.Core.Bool.{Bool, true, false}
 use mathlib.Core.List.{List}
@@ -34,6 +34,10 @@ significantOf Raw x = x
 abbrev pub toldFrontSize : front.Front → Answer ℕ
 toldFrontSize (Bytes n) = given n
 toldFrontSize (Refused n) = refused n
+
+-- the w bytes from place p are the same
+abbrev pub Over : List ℕ → List ℕ → ℕ → ℕ → Type 0
+Over a b p w = (i : ℕ) → p ≤ i → i < p + w → getD a i 0 ≡ getD b i 0
 
 -- the bytes from the first to before n agree in what the decoder reads
 abbrev pub Agree : EntryLayout → List ℕ → List ℕ → ℕ → Type 0

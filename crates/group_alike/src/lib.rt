@@ -8,10 +8,11 @@ use group_entries::DecodedSap;
 use group_entries::DecodedTele;
 use group_entries::EntryLayout;
 ghost use mathlib.Core.Path.{_≡_};
-ghost use Prim.Native.Nat.{_≤_};
+ghost use mathlib.Core.Bool.{true};
+ghost use Prim.Native.Nat.{_+_, _≤_};
 ghost use lib.ListN.{length};
 ghost use Rattle.base_fields.specs.Answer.{given, andThen, inputLimit};
-ghost use Rattle.group_alike.specs.Front.{significantOf, GivesSameFront, frontSize, toldFrontSize};
+ghost use Rattle.group_alike.specs.Front.{significantOf, GivesSameFront, Over, frontSize, toldFrontSize};
 ghost use Rattle.group_entries.specs.Layout.{decodeAs};
 ghost use Rattle.group_alike.specs.Alike.{toldAlike, alike};
 
@@ -78,12 +79,39 @@ pub fn front_of(layout: EntryLayout, s: &[u8]) -> Front
     }
 }
 
-// Whether the first n bytes are the same under a layout.
+// Whether the eight bytes at a place are the same.
+fn same_eight(a: &[u8], b: &[u8], at: usize) -> bool
+    requires { ⌜ (at + 8 ≤ length (now a)) × (at + 8 ≤ length (now b)) ⌝ }
+    ensures { λ r. ⌜ (r ≡ true → Over (now (a .entry)) (now (b .entry)) at 8) ⌝ }
+{
+    if base_fields::read_u32(a, at) != base_fields::read_u32(b, at) {
+        return false;
+    }
+    base_fields::read_u32(a, at + 4) == base_fields::read_u32(b, at + 4)
+}
+
+// So many of the first n bytes are the same: as many eights as are, one after the other.
+fn same_eights(a: &[u8], b: &[u8], n: usize) -> usize
+    requires { ⌜ (n ≤ length (now a)) × (n ≤ length (now b)) ⌝ }
+    ensures { λ r. ⌜ (r ≤ n) × Over (now (a .entry)) (now (b .entry)) 0 r ⌝ }
+{
+    let mut i = 0;
+    while 8 <= n - i {
+        if same_eight(a, b, i) {
+            i += 8;
+        } else {
+            return i;
+        }
+    }
+    i
+}
+
+// Whether the first n bytes are the same under a layout: by eights, then by what the layout reads of each byte.
 fn same_front(layout: EntryLayout, a: &[u8], b: &[u8], n: usize) -> bool
     requires { ⌜ (n ≤ length (now a)) × (n ≤ length (now b)) ⌝ }
     ensures { λ r. ⌜ GivesSameFront layout (now (a .entry)) (now (b .entry)) n r ⌝ }
 {
-    let mut i = 0;
+    let mut i = same_eights(a, b, n);
     while i < n {
         if significant(layout, a[i]) != significant(layout, b[i]) {
             return false;

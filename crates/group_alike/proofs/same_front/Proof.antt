@@ -1,9 +1,10 @@
-use mathlib.Core.Path.{_≡_, sym, _∙_}
-use Prim.Native.Nat.{ℕ, _-_, _≤_}
+-- The eights that are the same agree under every layout; then byte by byte.
+use mathlib.Core.Path.{_≡_, ap, sym, _∙_}
+use Prim.Native.Nat.{ℕ, _-_, _≤_, zero-le}
 use native.Mathlib.Omega.{arith}
-use borrow.Author.Count.{below-none, below-more}
+use borrow.Author.Count.{below-more}
 use borrow.Author.Needs.{needs}
-use Rattle.group_alike.specs.Front.{Agree}
+use Rattle.group_alike.specs.Front.{Agree, significantOf}
 use Rattle.group_alike.proofs.same_front.Statement.{statement}
 use Rattle.group_alike.proofs.same_front.Tie as tie
 
@@ -13,8 +14,13 @@ Inv-loop layout a b n i₀ i = (i ≤ n) × Agree layout a b i
 abbrev μ-loop : tie.MeasureT-loop
 μ-loop layout a b n i₀ i = n - i
 
+same-eights-requires : tie.Need-same-eights-requires Inv-loop μ-loop
+same-eights-requires c κs = search needs
+
 loop-holds : tie.Need-loop-holds Inv-loop μ-loop
-loop-holds c = (search needs, below-none _)
+loop-holds c =
+    let layout = c .before .before .before .args .layout in
+    (c .same-eights .ensures .0, λ i h. ap (significantOf layout) (c .same-eights .ensures .1 i zero-le (omega arith)))
 
 shared-slice-read-significant : tie.Need-shared-slice-read-significant Inv-loop μ-loop
 shared-slice-read-significant c = search needs
@@ -61,6 +67,7 @@ same-front-spec =
     (tie.spec
     Inv-loop
     μ-loop
+    same-eights-requires
     loop-holds
     shared-slice-read-significant
     significant-requires
