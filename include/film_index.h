@@ -29,6 +29,13 @@
 extern "C" {
 #endif
 
+/* A length. The library counts with 64 bits everywhere: on x86-64 this is size_t, and where size_t has 32 bits (the archive for the controller) it is uint64_t. */
+#if SIZE_MAX == UINT64_MAX
+typedef size_t film_size;
+#else
+typedef uint64_t film_size;
+#endif
+
 #define FILM_INPUT_LIMIT 67108864u /* bytes */
 #define FILM_RECORD_LIMIT 8388608u /* records, two numbers each */
 
@@ -85,65 +92,65 @@ extern "C" {
 
 /* The header at place `at` of the `len` bytes at `s`; FILM_NONE where no byte stands there.
  * out: type, open-ended (0 or 1), total size (0 if open-ended), header length, place of the body. */
-uint32_t film_read_atom_header(const uint8_t *s, size_t len, uint64_t at, uint64_t out[5]);
+uint32_t film_read_atom_header(const uint8_t *s, film_size len, uint64_t at, uint64_t out[5]);
 
 /* The child at place `at` of a container that ends at `end`, if `known` is not 0; FILM_NONE where the walk is done.
  * out: place of the next child, then the five numbers of the child's header. An open-ended child ends with its parent. A child may end before its own body
  * begins (an open-ended one whose header crosses its parent's end), and where no end is known it may pass the input; the next call then says FILM_NONE. */
-uint32_t film_next_child(const uint8_t *s, size_t len, uint64_t at, uint32_t known, uint64_t end, uint64_t out[6]);
+uint32_t film_next_child(const uint8_t *s, film_size len, uint64_t at, uint32_t known, uint64_t end, uint64_t out[6]);
 
 /* The body of the atom whose header stands at place `at`. out: place and length of the body. The header's refusals come first. */
-uint32_t film_read_payload(const uint8_t *s, size_t len, uint64_t at, uint64_t out[2]);
+uint32_t film_read_payload(const uint8_t *s, film_size len, uint64_t at, uint64_t out[2]);
 
 /* The same where the body may have at most `max_remaining` bytes. */
-uint32_t film_read_payload_bounded(const uint8_t *s, size_t len, uint64_t at, uint64_t max_remaining, uint64_t out[2]);
+uint32_t film_read_payload_bounded(const uint8_t *s, film_size len, uint64_t at, uint64_t max_remaining, uint64_t out[2]);
 
 /* Sample tables. `s` is the payload of an sbgp or a csgp. `rows` is a run of `rows_len` numbers, two for each record: a sample count and a description index. So
  * rows_len is twice the number of records, and after n rows were written, lookups over them take 2 * n; a last number without a partner is no record. With FILM_OK the
  * rows stand in front of the run and the numbers behind them stay. */
 
 /* The rows of an sbgp payload, as they are. out: grouping type, parameter (0 if absent), row count. */
-uint32_t film_parse_sbgp(const uint8_t *s, size_t len, uint32_t *rows, size_t rows_len, uint64_t out[3]);
+uint32_t film_parse_sbgp(const uint8_t *s, film_size len, uint32_t *rows, film_size rows_len, uint64_t out[3]);
 
 /* The rows of a csgp payload: its patterns replayed over their samples, equal neighbours joined. out as for sbgp. */
-uint32_t film_parse_csgp(const uint8_t *s, size_t len, uint32_t *rows, size_t rows_len, uint64_t out[3]);
+uint32_t film_parse_csgp(const uint8_t *s, film_size len, uint32_t *rows, film_size rows_len, uint64_t out[3]);
 
 /* The number of rows that an sbgp payload needs. out: that number, n. film_parse_sbgp then takes rows_len 2 * n or more; with fewer than n records it answers
  * FILM_NO_RECORD_LEFT. The refusals are those of film_parse_sbgp, but never FILM_NO_RECORD_LEFT. */
-uint32_t film_sbgp_rows_needed(const uint8_t *s, size_t len, uint64_t out[1]);
+uint32_t film_sbgp_rows_needed(const uint8_t *s, film_size len, uint64_t out[1]);
 
 /* The same for a csgp payload and film_parse_csgp. */
-uint32_t film_csgp_rows_needed(const uint8_t *s, size_t len, uint64_t out[1]);
+uint32_t film_csgp_rows_needed(const uint8_t *s, film_size len, uint64_t out[1]);
 
 /* The description index (counted from 1, 0: none) of a sample (counted from 0). out: the index; 0 past the last row. */
-uint32_t film_group_index_for_sample(const uint32_t *rows, size_t rows_len, uint32_t sample, uint64_t out[1]);
+uint32_t film_group_index_for_sample(const uint32_t *rows, film_size rows_len, uint32_t sample, uint64_t out[1]);
 
 /* The number of samples that the rows cover. out: the sum. */
-uint32_t film_covered_samples(const uint32_t *rows, size_t rows_len, uint64_t out[1]);
+uint32_t film_covered_samples(const uint32_t *rows, film_size rows_len, uint64_t out[1]);
 
 /* Group descriptions. `s` is the payload of an sgpd. */
 
 /* Reads the whole payload. out: version, grouping type, default length, default index (carried, not used), entry count. */
-uint32_t film_parse_sgpd(const uint8_t *s, size_t len, uint64_t out[5]);
+uint32_t film_parse_sgpd(const uint8_t *s, film_size len, uint64_t out[5]);
 
 /* Entry `index`, counted from 1, once the whole payload is read; FILM_NONE for 0 and past the count.
  * out: place and length of the entry's bytes in the payload. */
-uint32_t film_entry_place(const uint8_t *s, size_t len, uint32_t index, uint64_t out[2]);
+uint32_t film_entry_place(const uint8_t *s, film_size len, uint32_t index, uint64_t out[2]);
 
 /* Typed entries. `s` is an entry's bytes. Points, offsets and pieces are counted from 0; the decoder's refusals come first, then FILM_NONE past the count. */
-uint32_t film_decode_roll(const uint8_t *s, size_t len, int64_t out[1]);  /* distance, signed */
-uint32_t film_decode_prol(const uint8_t *s, size_t len, int64_t out[1]);  /* distance, signed */
-uint32_t film_decode_rap(const uint8_t *s, size_t len, uint64_t out[2]);  /* known, number of leading samples */
-uint32_t film_decode_tele(const uint8_t *s, size_t len, uint64_t out[1]); /* independently decodable */
-uint32_t film_decode_sap(const uint8_t *s, size_t len, uint64_t out[2]);  /* dependent, type */
-uint32_t film_decode_rash(const uint8_t *s, size_t len, uint64_t out[4]); /* points, maximum, minimum, priority */
-uint32_t film_rash_operation_point(const uint8_t *s, size_t len, uint32_t k, uint64_t out[2]); /* bitrate, share */
-uint32_t film_decode_alst(const uint8_t *s, size_t len, uint64_t out[3]); /* roll count, first output sample, pieces */
-uint32_t film_alst_sample_offset(const uint8_t *s, size_t len, uint32_t k, uint64_t out[1]); /* offset */
-uint32_t film_alst_piece(const uint8_t *s, size_t len, uint32_t k, uint64_t out[2]); /* output samples, total samples */
+uint32_t film_decode_roll(const uint8_t *s, film_size len, int64_t out[1]);  /* distance, signed */
+uint32_t film_decode_prol(const uint8_t *s, film_size len, int64_t out[1]);  /* distance, signed */
+uint32_t film_decode_rap(const uint8_t *s, film_size len, uint64_t out[2]);  /* known, number of leading samples */
+uint32_t film_decode_tele(const uint8_t *s, film_size len, uint64_t out[1]); /* independently decodable */
+uint32_t film_decode_sap(const uint8_t *s, film_size len, uint64_t out[2]);  /* dependent, type */
+uint32_t film_decode_rash(const uint8_t *s, film_size len, uint64_t out[4]); /* points, maximum, minimum, priority */
+uint32_t film_rash_operation_point(const uint8_t *s, film_size len, uint32_t k, uint64_t out[2]); /* bitrate, share */
+uint32_t film_decode_alst(const uint8_t *s, film_size len, uint64_t out[3]); /* roll count, first output sample, pieces */
+uint32_t film_alst_sample_offset(const uint8_t *s, film_size len, uint32_t k, uint64_t out[1]); /* offset */
+uint32_t film_alst_piece(const uint8_t *s, film_size len, uint32_t k, uint64_t out[2]); /* output samples, total samples */
 
 /* Whether two entries of one grouping type decode to the same value. out: 1 or 0. */
-uint32_t film_decode_alike(uint32_t grouping_type, const uint8_t *a, size_t a_len, const uint8_t *b, size_t b_len, uint64_t out[1]);
+uint32_t film_decode_alike(uint32_t grouping_type, const uint8_t *a, film_size a_len, const uint8_t *b, film_size b_len, uint64_t out[1]);
 
 /* Fragments. */
 
@@ -152,7 +159,7 @@ uint32_t film_split_csgp_index(uint32_t raw, uint64_t out[2]);
 
 /* The entry that such an index names, in the film-wide or the fragment's sgpd payload; FILM_NONE where the payload has no such entry.
  * out: 1 for the fragment's, place and length in that payload. */
-uint32_t film_described_place(const uint8_t *film, size_t film_len, const uint8_t *fragment, size_t fragment_len, uint32_t raw, uint64_t out[3]);
+uint32_t film_described_place(const uint8_t *film, film_size film_len, const uint8_t *fragment, film_size fragment_len, uint32_t raw, uint64_t out[3]);
 
 /* The value bitrate * share / 100, rounded down. */
 uint64_t film_rate_of_point(uint32_t bitrate, uint16_t share);
@@ -170,7 +177,7 @@ uint64_t film_rate_of_point(uint32_t bitrate, uint16_t share);
  * Refusals, in order: those of the walk over the children, as it meets them (FILM_OPEN_BODY, FILM_SHORT_TABLE or FILM_SHORT_SGPD of an sbgp, a csgp or an sgpd of any
  * type; a second table, a second sgpd of this type); FILM_NO_TABLE; FILM_NO_SGPD; the table's; the sgpd's; the decoder's, for the entries of samples, in their order;
  * FILM_OUTPUT_TOO_SHORT. */
-uint32_t film_cue_listing(const uint8_t *body, size_t len, uint32_t grouping_type, uint32_t *rows, size_t rows_len, uint8_t *listing, size_t listing_len, uint64_t out[2]);
+uint32_t film_cue_listing(const uint8_t *body, film_size len, uint32_t grouping_type, uint32_t *rows, film_size rows_len, uint8_t *listing, film_size listing_len, uint64_t out[2]);
 
 #ifdef __cplusplus
 }

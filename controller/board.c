@@ -1,0 +1,388 @@
+/* The library on an emulated controller: the stored answers replayed through the C functions, document 01's starred cases, and for each call the instructions
+ * and the stack that it takes. No library of C: text goes out by semihosting. The timer counts instructions (-icount shift=0), 40 of them to a tick. */
+#include "film_index.h"
+
+/* Semihosting, and numbers as text. */
+static void host(int operation, const void *block) {
+    register int r0 __asm__("r0") = operation;
+    register const void *r1 __asm__("r1") = block;
+    __asm__ volatile("bkpt 0xab" : "+r"(r0) : "r"(r1) : "memory");
+}
+
+static void text(const char *s) { host(4, s); }
+
+static void number(uint64_t n) {
+    char digits[24];
+    int at = 23;
+    digits[at] = 0;
+    do {
+        digits[--at] = (char)('0' + n % 10);
+        n /= 10;
+    } while (n);
+    text(digits + at);
+}
+
+/* What the compiler may ask for. */
+void *memcpy(void *to, const void *from, size_t n) {
+    for (size_t k = 0; k < n; k++) ((volatile uint8_t *)to)[k] = ((const uint8_t *)from)[k];
+    return to;
+}
+void *memset(void *to, int byte, size_t n) {
+    for (size_t k = 0; k < n; k++) ((volatile uint8_t *)to)[k] = (uint8_t)byte;
+    return to;
+}
+void __aeabi_memcpy(void *to, const void *from, size_t n) { memcpy(to, from, n); }
+void __aeabi_memset(void *to, size_t n, int byte) { memset(to, byte, n); }
+void __aeabi_memclr(void *to, size_t n) { memset(to, 0, n); }
+void __aeabi_memcpy4(void *to, const void *from, size_t n) __attribute__((alias("__aeabi_memcpy")));
+void __aeabi_memcpy8(void *to, const void *from, size_t n) __attribute__((alias("__aeabi_memcpy")));
+void __aeabi_memset4(void *to, size_t n, int byte) __attribute__((alias("__aeabi_memset")));
+void __aeabi_memset8(void *to, size_t n, int byte) __attribute__((alias("__aeabi_memset")));
+void __aeabi_memclr4(void *to, size_t n) __attribute__((alias("__aeabi_memclr")));
+void __aeabi_memclr8(void *to, size_t n) __attribute__((alias("__aeabi_memclr")));
+
+/* Stored answers (docs/VECTORS.md): a line is a record in hexadecimal. */
+static uint8_t record[512];
+static uint32_t rows[4096];
+static uint8_t listing[16384];
+
+/* A digit's value; 16 for any other character. */
+static unsigned digit(char c) { return c >= '0' && c <= '9' ? (unsigned)(c - '0') : c >= 'a' && c <= 'f' ? (unsigned)(c - 'a' + 10) : 16; }
+
+static uint64_t big(const uint8_t *s, unsigned n) {
+    uint64_t v = 0;
+    while (n--) v = v << 8 | *s++;
+    return v;
+}
+
+/* Whether the call that the record names gives the record's answer. */
+static int agrees(const uint8_t *r, unsigned length) {
+    uint64_t argument[4] = {0}, out[6] = {0};
+    unsigned n = r[1];
+    for (unsigned k = 0; k < n && k < 4; k++) argument[k] = big(r + 2 + 8 * k, 8);
+    const uint8_t *size = r + 2 + 8 * n, *s = size + 2;
+    film_size len = (film_size)big(size, 2);
+    const uint8_t *told = s + len, *numbers = told + 2;
+    unsigned count = 0, status = 0, lent = 0;
+    uint32_t k = (uint32_t)argument[0];
+    if (r[0] == 7 || r[0] == 8)
+        for (lent = 0; lent < len / 4; lent++) rows[lent] = (uint32_t)big(s + 4 * lent, 4);
+    switch (r[0]) {
+    case 1: status = film_read_atom_header(s, len, argument[0], out); count = 5; break;
+    case 2: status = film_next_child(s, len, argument[0], (uint32_t)argument[1], argument[2], out); count = 6; break;
+    case 3: status = film_read_payload(s, len, argument[0], out); count = 2; break;
+    case 4: status = film_read_payload_bounded(s, len, argument[0], argument[1], out); count = 2; break;
+    case 5: status = film_parse_sbgp(s, len, rows, argument[0], out); count = 3; break;
+    case 6: status = film_parse_csgp(s, len, rows, argument[0], out); count = 3; break;
+    case 7: status = film_group_index_for_sample(rows, lent, k, out); count = 1; break;
+    case 8: status = film_covered_samples(rows, lent, out); count = 1; break;
+    case 9: status = film_parse_sgpd(s, len, out); count = 5; break;
+    case 10: status = film_entry_place(s, len, k, out); count = 2; break;
+    case 11: status = film_decode_roll(s, len, (int64_t *)out); count = 1; break;
+    case 12: status = film_decode_prol(s, len, (int64_t *)out); count = 1; break;
+    case 13: status = film_decode_rap(s, len, out); count = 2; break;
+    case 14: status = film_decode_tele(s, len, out); count = 1; break;
+    case 15: status = film_decode_sap(s, len, out); count = 2; break;
+    case 16: status = film_decode_rash(s, len, out); count = 4; break;
+    case 17: status = film_rash_operation_point(s, len, k, out); count = 2; break;
+    case 18: status = film_decode_alst(s, len, out); count = 3; break;
+    case 19: status = film_alst_sample_offset(s, len, k, out); count = 1; break;
+    case 20: status = film_alst_piece(s, len, k, out); count = 2; break;
+    default: return 0;
+    }
+    if (told[0] != status || numbers + 8 * told[1] != r + length) return 0;
+    if (status != 0) return told[1] == 0;
+    for (unsigned i = 0; i < count; i++)
+        if (big(numbers + 8 * i, 8) != out[i]) return 0;
+    if (r[0] != 5 && r[0] != 6) return told[1] == count;
+    if (told[1] != count + 2 * out[2]) return 0;
+    for (unsigned i = 0; i < 2 * out[2]; i++)
+        if (big(numbers + 8 * (count + i), 8) != rows[i]) return 0;
+    return 1;
+}
+
+static void replay(const char *name, const char *from, const char *to, int expected) {
+    unsigned lines = 0, same = 0;
+    while (from < to) {
+        unsigned n = 0, good = 1;
+        while (from < to && *from != '\n') {
+            good &= digit(from[0]) < 16 && digit(from[1]) < 16;
+            record[n++] = (uint8_t)(digit(from[0]) << 4 | digit(from[1]));
+            from += 2;
+        }
+        from++;
+        lines++;
+        same += good && agrees(record, n);
+    }
+    text(name);
+    text(": ");
+    number(lines);
+    text(" stored answers, ");
+    number(same);
+    text(expected == 1 ? " agree" : " agree (none may)");
+    text(same == (expected ? lines : 0) ? "\n" : "  WRONG\n");
+}
+
+extern const char atoms[], atoms_end[], tables[], tables_end[], descriptions[], descriptions_end[], document[], document_end[], damaged[], damaged_end[];
+
+/* Document 01's starred cases: status, then numbers. */
+static unsigned cases, right;
+
+static void starred(unsigned status, unsigned want, const uint64_t *out, unsigned n, const uint64_t *numbers) {
+    unsigned good = status == want;
+    for (unsigned k = 0; good && want == 0 && k < n; k++) good = out[k] == numbers[k];
+    cases++;
+    right += good;
+}
+
+#define CASE(call, want, n, ...) \
+    do { \
+        uint64_t out[8] = {0}; \
+        const uint64_t numbers[] = {__VA_ARGS__}; \
+        uint32_t status = call; \
+        starred(status, want, out, n, numbers); \
+    } while (0)
+#define BYTES(...) ((const uint8_t[]){__VA_ARGS__}), sizeof((const uint8_t[]){__VA_ARGS__})
+#define FREE 'f', 'r', 'e', 'e'
+#define RAP 0, 0, 0, 0, 'r', 'a', 'p', ' '
+#define SBGP BYTES(RAP, 0, 0, 0, 3, 0, 0, 0, 3, 0, 0, 0, 1, 0, 0, 0, 0, 0, 0, 0, 9, 0, 0, 0, 2, 0, 0, 0, 1)
+#define SHARED(n) 0, 0, 0, 0, 'a', 'b', 'c', 'd', 0, 0, 0, n
+
+static void rows_are(unsigned n, const uint32_t *want) {
+    unsigned good = 1;
+    for (unsigned k = 0; k < 2 * n; k++) good &= rows[k] == want[k];
+    cases++;
+    right += good;
+}
+
+static void all_starred(void) {
+    CASE(film_read_atom_header((const uint8_t *)"", 0, 0, out), FILM_NONE, 0, 0);
+    CASE(film_read_atom_header(BYTES(0, 0, 0, 7, FREE), 0, out), FILM_SMALL_SIZE, 0, 0);
+    CASE(film_read_atom_header(BYTES(0, 0, 0, 8, FREE), 0, out), 0, 5, 0x66726565, 0, 8, 8, 8);
+    CASE(film_read_payload(BYTES(0, 0, 0, 8, FREE), 0, out), 0, 2, 8, 0);
+    CASE(film_read_atom_header(BYTES(0, 0, 0, 1, FREE, 0, 0, 0, 0, 0, 0, 0, 15), 0, out), FILM_SMALL_EXTENDED_SIZE, 0, 0);
+    CASE(film_read_atom_header(BYTES(0, 0, 0, 1, FREE, 0, 0, 0, 0, 0, 0, 0, 16), 0, out), 0, 5, 0x66726565, 0, 16, 16, 16);
+    CASE(film_read_atom_header(BYTES(0, 0, 0, 1, FREE, 255, 255, 255, 255, 255, 255, 255, 255), 0, out), 0, 5, 0x66726565, 0, UINT64_MAX, 16, 16);
+    CASE(film_read_atom_header(BYTES(0, 0, 0, 8, FREE, 0, 0, 0, 1, FREE, 255, 255, 255, 255, 255, 255, 255, 255), 8, out), FILM_FAR_END, 0, 0);
+
+    CASE(film_parse_sbgp(SBGP, rows, 6, out), 0, 3, 0x72617020, 0, 3);
+    rows_are(3, (const uint32_t[]){3, 1, 0, 9, 2, 1});
+    CASE(film_group_index_for_sample(rows, 6, 4, out), 0, 1, 1);
+    CASE(film_group_index_for_sample(rows, 6, 5, out), 0, 1, 0);
+    CASE(film_covered_samples(rows, 6, out), 0, 1, 5);
+    CASE(film_parse_sbgp(SBGP, rows, 4, out), FILM_NO_RECORD_LEFT, 0, 0);
+    CASE(film_parse_csgp(BYTES(RAP, 0, 0, 0, 1, 0x37, 0x12, 0x20), rows, 10, out), 0, 3, 0x72617020, 0, 5);
+    rows_are(5, (const uint32_t[]){1, 1, 2, 2, 1, 1, 2, 2, 1, 1});
+    CASE(film_parse_csgp(BYTES(RAP, 0, 0, 0, 1, 0x37, 0x12, 0x20), rows, 8, out), FILM_NO_RECORD_LEFT, 0, 0);
+    CASE(film_parse_csgp(BYTES(RAP, 0, 0, 0, 2, 0x12, 0x23, 0x55, 0x60), rows, 6, out), 0, 3, 0x72617020, 0, 3);
+    rows_are(3, (const uint32_t[]){3, 5, 1, 6, 1, 5});
+    CASE(film_parse_csgp(BYTES(RAP, 0, 0, 0, 2, 0x10, 0x11, 0x78), rows, 2, out), 0, 3, 0x72617020, 0, 1);
+    rows_are(1, (const uint32_t[]){1, 8});
+    CASE(film_parse_csgp(BYTES(RAP, 0, 0, 0, 2, 0x01), rows, 2, out), FILM_PATTERN_LENGTH_CUT, 0, 0);
+    CASE(film_parse_csgp(BYTES(RAP, 0, 0, 0, 2, 0x01, 0x11), rows, 2, out), FILM_PATTERN_LENGTH_ZERO, 0, 0);
+
+    CASE(film_entry_place(BYTES(SHARED(3), 0, 0, 0, 0, 0, 0, 0, 0, 0), 1, out), 0, 2, 12, 3);
+    CASE(film_entry_place(BYTES(SHARED(3), 0, 0, 0, 0, 0, 0, 0, 0, 0), 2, out), 0, 2, 15, 2);
+    CASE(film_entry_place(BYTES(SHARED(3), 0, 0, 0, 0, 0, 0, 0, 0, 0), 3, out), 0, 2, 17, 1);
+    CASE(film_entry_place(BYTES(SHARED(2), 0, 0, 0), 1, out), 0, 2, 12, 1);
+    CASE(film_entry_place(BYTES(SHARED(2), 0, 0, 0), 2, out), 0, 2, 13, 1);
+    CASE(film_parse_sgpd(BYTES(SHARED(2), 0, 0), out), FILM_ZERO_SHARE, 0, 0);
+    CASE(film_decode_roll(BYTES(0xff, 0xfe), (int64_t *)out), 0, 1, (uint64_t)-2);
+    CASE(film_decode_roll(BYTES(0x80, 0x00), (int64_t *)out), 0, 1, (uint64_t)-32768);
+    CASE(film_decode_rash(BYTES(0, 1, 0, 7, 0, 0, 0, 8, 0, 0, 0, 9, 5), out), 0, 4, 1, 8, 9, 5);
+    CASE(film_decode_rash(BYTES(0, 1, 0, 7, 0, 0, 0, 8, 0, 0, 0, 9), out), FILM_TRAILER_CUT, 0, 0);
+    CASE(film_decode_alst(BYTES(0, 0, 0, 6), out), 0, 3, 0, 6, 0);
+    CASE(film_decode_alst(BYTES(0, 0, 0, 6, 1), out), FILM_PIECES_CUT, 0, 0);
+
+    /* the listing of crates/cue: roll, 3 samples; 2 of distance -2, 1 of no group */
+    static const uint8_t want[] = {'r', 'o', 'l', 'l', 3, 2, 2, 0xfe, 0xff, 1, 1, 0};
+    CASE(film_cue_listing(BYTES(0, 0, 0, 36, 's', 'b', 'g', 'p', 0, 0, 0, 0, 'r', 'o', 'l', 'l', 0, 0, 0, 2, 0, 0, 0, 2, 0, 0, 0, 1, 0, 0, 0, 1, 0, 0, 0, 0,
+                                0, 0, 0, 26, 's', 'g', 'p', 'd', 1, 0, 0, 0, 'r', 'o', 'l', 'l', 0, 0, 0, 2, 0, 0, 0, 1, 0xff, 0xfe),
+                          0x726f6c6c, rows, 4, listing, 12, out),
+         0, 2, 12, 2);
+    unsigned good = 1;
+    for (unsigned k = 0; k < sizeof want; k++) good &= listing[k] == want[k];
+    cases++;
+    right += good;
+    text("starred cases: ");
+    number(cases);
+    text(" answers, ");
+    number(right);
+    text(right == cases ? " right\n" : " right  WRONG\n");
+}
+
+/* Counting: the timer runs down, 40 instructions to a tick. The stack below this frame is painted, and the deepest byte that changed is found. */
+#define SYST ((volatile uint32_t *)0xe000e010)
+extern uint8_t stack_low[];
+static uint32_t idle, sink;
+
+static void begin(void) {
+    SYST[1] = 0xffffff;
+    SYST[2] = 0;
+    SYST[0] = 5;
+}
+
+static uint32_t ticks(void) { return 0xffffff - SYST[2]; }
+
+static uint8_t *here(void) { return (uint8_t *)__builtin_frame_address(0); }
+
+/* So many bytes below the caller's frame are not painted: a call that takes no more is told as that. */
+#define UNPAINTED 72
+
+static __attribute__((noinline)) void paint(void) {
+    for (volatile uint8_t *at = stack_low; at < here() - 64; at++) *at = 0xa5;
+}
+
+static __attribute__((noinline)) uint32_t painted(void) {
+    const volatile uint8_t *at = stack_low;
+    while (*at == 0xa5) at++;
+    return (uint32_t)(uintptr_t)at;
+}
+
+static void report(const char *name, uint32_t elapsed, uint32_t repeat, uint32_t stack) {
+    text("| ");
+    text(name);
+    text(" | ");
+    uint64_t instructions = ((uint64_t)elapsed * 40 - (uint64_t)idle * repeat / 1000 + repeat / 2) / repeat;
+    number(instructions);
+    text(" | ");
+    uint64_t parts = (instructions * 10 + 24) / 48; /* ten thousandths of a millisecond, at 48 MHz */
+    number(parts / 10000);
+    text(".");
+    for (uint32_t place = 1000; place; place /= 10) number(parts / place % 10);
+    text(" | ");
+    if (stack <= UNPAINTED) text("at most ");
+    number(stack);
+    text(" |\n");
+}
+
+#define MEASURE(name, repeat, call) \
+    do { \
+        uint32_t top; \
+        __asm__ volatile("mov %0, sp" : "=r"(top)); \
+        paint(); \
+        sink += (uint32_t)(call); \
+        uint32_t deep = top - painted(); \
+        begin(); \
+        for (uint32_t turn = 0; turn < (repeat); turn++) { \
+            sink += (uint32_t)(call); \
+            __asm__ volatile("" ::: "memory"); \
+        } \
+        uint32_t spent = ticks(); \
+        report(name, spent, repeat, deep); \
+    } while (0)
+
+static uint8_t input[32768];
+
+static uint8_t *put(uint8_t *to, uint64_t n, unsigned bytes) {
+    while (bytes--) *to++ = (uint8_t)(n >> 8 * bytes);
+    return to;
+}
+
+static uint8_t *word(uint8_t *to, const char *type) { return put(to, big((const uint8_t *)type, 4), 4); }
+
+/* A csgp with 32-bit lengths and counts and indices of 8 bits. */
+static uint8_t *csgp_front(uint8_t *to, const char *type, unsigned patterns) { return put(word(put(to, 0x3d, 4), type), patterns, 4); }
+
+static uint32_t walk(film_size len) {
+    uint64_t at = 0, out[6];
+    uint32_t count = 0;
+    while (film_next_child(input, len, at, 1, len, out) == FILM_OK) {
+        at = out[0];
+        count++;
+    }
+    return count;
+}
+
+static void measured(void) {
+    uint64_t out[6];
+    uint8_t *end;
+    text("\n| call | instructions | ms at 48 MHz | stack, bytes |\n|---|---|---|---|\n");
+    begin();
+    for (uint32_t turn = 0; turn < 1000; turn++) __asm__ volatile("" ::: "memory");
+    idle = ticks() * 40;
+
+    end = put(word(put(input, 72, 4), "free"), 0, 8);
+    MEASURE("read_atom_header", 1000, film_read_atom_header(input, 72, 0, out));
+    MEASURE("read_payload", 1000, film_read_payload(input, 72, 0, out));
+    MEASURE("read_payload_bounded", 1000, film_read_payload_bounded(input, 72, 0, 64, out));
+    for (unsigned k = 0; k < 1000; k++) put(word(put(input + 16 * k, 16, 4), "free"), k, 8);
+    MEASURE("next_child, a walk over 1,000", 10, walk(16000));
+
+    end = put(word(put(input, 0, 4), "rap "), 1000, 4);
+    for (unsigned k = 0; k < 1000; k++) end = put(put(end, k % 7 + 1, 4), k % 3, 4);
+    MEASURE("parse_sbgp, 1,000 rows", 10, film_parse_sbgp(input, (film_size)(end - input), rows, 2000, out));
+    MEASURE("sbgp_rows_needed, 1,000 rows", 1000, film_sbgp_rows_needed(input, (film_size)(end - input), out));
+    MEASURE("group_index_for_sample, the first of 1,000 rows", 1000, film_group_index_for_sample(rows, 2000, 0, out));
+    MEASURE("group_index_for_sample, the last of 1,000 rows", 10, film_group_index_for_sample(rows, 2000, 3993, out));
+    MEASURE("covered_samples, 1,000 rows", 10, film_covered_samples(rows, 2000, out));
+
+    end = put(put(put(csgp_front(input, "rap ", 1), 1, 4), 9000, 4), 1, 1);
+    MEASURE("parse_csgp, uniform", 100, film_parse_csgp(input, (film_size)(end - input), rows, 4096, out));
+    end = put(put(put(csgp_front(input, "rap ", 1), 2, 4), 2000, 4), 0x0102, 2);
+    MEASURE("parse_csgp, alternating, 2,000 rows", 10, film_parse_csgp(input, (film_size)(end - input), rows, 4096, out));
+    MEASURE("csgp_rows_needed, the same", 100, film_csgp_rows_needed(input, (film_size)(end - input), out));
+    end = put(put(csgp_front(input, "rap ", 1), 300, 4), 3000, 4);
+    for (unsigned k = 0; k < 300; k++) *end++ = (uint8_t)(1 + k / 3 % 9);
+    MEASURE("parse_csgp, 300 indices by threes, 3,000 samples", 10, film_parse_csgp(input, (film_size)(end - input), rows, 4096, out));
+
+    end = put(put(word(put(input, 0x01000000, 4), "abcd"), 4, 4), 1000, 4);
+    for (unsigned k = 0; k < 1000; k++) end = put(end, k, 4);
+    MEASURE("parse_sgpd, 1,000 entries, one length", 100, film_parse_sgpd(input, (film_size)(end - input), out));
+    MEASURE("entry_place, the last, one length", 100, film_entry_place(input, (film_size)(end - input), 1000, out));
+    end = put(put(word(put(input, 0x01000000, 4), "abcd"), 0, 4), 1000, 4);
+    for (unsigned k = 0; k < 1000; k++) end = put(put(end, 4, 4), k, 4);
+    MEASURE("parse_sgpd, 1,000 entries, lengths", 10, film_parse_sgpd(input, (film_size)(end - input), out));
+    MEASURE("entry_place, the last, lengths", 10, film_entry_place(input, (film_size)(end - input), 1000, out));
+    MEASURE("described_place, the fragment's last, lengths", 10,
+            film_described_place(input, (film_size)(end - input), input, (film_size)(end - input), 0x80000000u | 1000, out));
+    MEASURE("split_csgp_index", 1000, film_split_csgp_index(0x80000007u, out));
+    MEASURE("rate_of_point", 1000, film_rate_of_point(4000000000u, 75));
+
+    put(input, 0xfffe, 2);
+    MEASURE("decode_roll", 1000, film_decode_roll(input, 2, (int64_t *)out));
+    MEASURE("decode_prol", 1000, film_decode_prol(input, 2, (int64_t *)out));
+    MEASURE("decode_rap", 1000, film_decode_rap(input, 1, out));
+    MEASURE("decode_tele", 1000, film_decode_tele(input, 1, out));
+    MEASURE("decode_sap", 1000, film_decode_sap(input, 1, out));
+    put(input, 100, 2);
+    MEASURE("decode_rash, 100 points", 1000, film_decode_rash(input, 611, out));
+    MEASURE("rash_operation_point, one of 100", 1000, film_rash_operation_point(input, 611, 50, out));
+    MEASURE("decode_alike, rash of 100 points", 10, film_decode_alike(0x72617368, input, 611, input, 611, out));
+    MEASURE("decode_alst, 100 offsets, 50 pieces", 1000, film_decode_alst(input, 604, out));
+    MEASURE("alst_sample_offset, one of 100", 1000, film_alst_sample_offset(input, 604, 50, out));
+    MEASURE("alst_piece, one of 50", 1000, film_alst_piece(input, 604, 25, out));
+    MEASURE("decode_alike, roll", 1000, film_decode_alike(0x726f6c6c, input, 2, input, 2, out));
+    MEASURE("decode_alike, 1,000 bytes of an unknown type", 10, film_decode_alike(0x61626364, input, 1000, input, 1000, out));
+
+    /* a million samples of type roll in a hundred patterns: most of one index, every tenth with one sample in a hundred picked out */
+    uint8_t *table = input + 8;
+    end = csgp_front(table, "roll", 100);
+    for (unsigned k = 0; k < 100; k++) end = put(put(end, k % 10 ? 1 : 100, 4), 10000, 4);
+    for (unsigned k = 0; k < 100; k++) {
+        *end++ = (uint8_t)(1 + k % 3);
+        for (unsigned i = 1; k % 10 == 0 && i < 100; i++) *end++ = (uint8_t)(k % 4);
+    }
+    word(put(input, (uint64_t)(end - input), 4), "csgp");
+    uint8_t *groups = end;
+    end = put(put(word(put(end + 8, 0x01000000, 4), "roll"), 0, 4), 3, 4);
+    end = put(put(put(put(put(put(end, 2, 4), 0xfffe, 2), 2, 4), 3, 2), 2, 4), 0xfffe, 2);
+    word(put(groups, (uint64_t)(end - groups), 4), "sgpd");
+    MEASURE("cue_listing, 1,000,000 samples", 1, film_cue_listing(input, (film_size)(end - input), 0x726f6c6c, rows, 4096, listing, sizeof listing, out));
+}
+
+void reset(void) {
+    replay("atoms", atoms, atoms_end, 1);
+    replay("tables", tables, tables_end, 1);
+    replay("document", document, document_end, 1);
+    replay("descriptions", descriptions, descriptions_end, 1);
+    replay("damaged", damaged, damaged_end, 0);
+    all_starred();
+    measured();
+    host(0x18, (const void *)0x20026);
+    for (;;) {
+    }
+}
+
+extern uint32_t stack_top[];
+__attribute__((section(".vectors"), used)) const void *const vectors[2] = {stack_top, (const void *)reset};
