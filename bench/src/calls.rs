@@ -63,10 +63,13 @@ pub fn parse(call: Parser, s: &[u8], rows: &mut [u32]) -> (u32, u64) {
     (status, out[2])
 }
 
+pub fn look_up_into(rows: &[u32], sample: u32, out: &mut [u64; 1]) -> u32 {
+    black_box(unsafe { film_group_index_for_sample(rows.as_ptr(), rows.len(), sample, out.as_mut_ptr()) })
+}
+
 pub fn look_up(rows: &[u32], sample: u32) -> u64 {
     let mut out = [0];
-    let status = unsafe { film_group_index_for_sample(rows.as_ptr(), rows.len(), sample, out.as_mut_ptr()) };
-    assert_eq!(status, 0);
+    assert_eq!(look_up_into(rows, sample, &mut out), 0);
     black_box(out[0])
 }
 

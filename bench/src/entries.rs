@@ -116,9 +116,10 @@ impl Bench {
         let rows: Vec<u32> = black_box(table.entries.iter().flat_map(|e| [e.sample_count, e.group_description_index]).collect());
         let last = covered(&rows) as u32 - 1;
         let index = black_box(SampleToGroup::group_index_for_sample as fn(&SampleToGroup, u32) -> u32);
+        let mut out = [0];
         for (place, sample) in [("first", 0), ("middle", last / 2), ("last", last), ("past the end", last + 1)] {
             let name = format!("group_index_for_sample, {place} of 1,000 rows");
-            self.ours(&name, || drop(look_up(&rows, black_box(sample))));
+            self.ours(&name, || drop(look_up_into(&rows, black_box(sample), &mut out)));
             self.rust(&name, || drop(black_box(index(&table, black_box(sample)))));
         }
         let sum = black_box(SampleToGroup::covered_samples as fn(&SampleToGroup) -> u64);

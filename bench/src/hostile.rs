@@ -6,26 +6,31 @@ use crate::bench::inputs::*;
 use std::hint::black_box;
 
 impl Bench {
-    /// One call: `work` gives the answer and the number of bytes that it wrote.
-    fn suffer(&mut self, name: &str, bytes: usize, records: usize, mut work: impl FnMut() -> (String, u64)) {
-        let (answer, written) = work();
+    /// One call; `told` gives its answer in words, and the number of bytes that it wrote.
+    fn suffer<T>(&mut self, name: &str, bytes: usize, records: usize, mut work: impl FnMut() -> T, told: impl Fn(T) -> (String, u64)) {
+        let (answer, written) = told(work());
         self.once(format!("hostile\t{name}\t{answer}\t{bytes}\t{records}\t{written}"), || drop(black_box(work())));
     }
 
     fn parsed(&mut self, name: &str, call: Parser, s: &[u8], records: usize) {
         let mut run = vec![0u32; 2 * records];
-        self.suffer(name, s.len(), records, || match parse(call, s, &mut run) {
+        self.suffer(name, s.len(), records, || parse(call, s, &mut run), |told| match told {
             (0, count) => (format!("{count} rows"), 8 * count + 24),
             (n, _) => (format!("refused {n}"), 0),
         });
     }
 
     fn counted(&mut self, name: &str, call: Reader, s: &[u8]) {
-        self.suffer(name, s.len(), 0, || match read(call, s) {
+        self.suffer(name, s.len(), 0, || read(call, s), |told| match told {
             (0, out) => (format!("{} rows", out[0]), 8),
             (n, _) => (format!("refused {n}"), 0),
         });
     }
+}
+
+fn listed(told: Result<[u64; 2], u32>) -> (String, u64) {
+    let [length, count] = told.unwrap();
+    (format!("{count} rows, {length} bytes"), 8 * count + length)
 }
 
 pub fn run(bench: &mut Bench) {
@@ -52,42 +57,36 @@ pub fn run(bench: &mut Bench) {
     let empty = black_box(empty);
     bench.parsed("parse_sbgp: a million rows of count 0", film_parse_sbgp, &empty, 1_000_000);
     let rows = black_box([0u32, 1].repeat(1_000_000));
-    bench.suffer("group_index_for_sample: a million rows of count 0", 0, 1_000_000, || (format!("index {}", look_up(&rows, 0)), 8));
-    bench.suffer("covered_samples: a million rows of count 0", 0, 1_000_000, || (format!("{} samples", covered(&rows)), 8));
+    bench.suffer("group_index_for_sample: a million rows of count 0", 0, 1_000_000, || look_up(&rows, 0), |index| (format!("index {index}"), 8));
+    bench.suffer("covered_samples: a million rows of count 0", 0, 1_000_000, || covered(&rows), |sum| (format!("{sum} samples"), 8));
 
     let tiny = black_box([0, 0, 0, 8, b'f', b'r', b'e', b'e'].repeat(1_000_000));
-    bench.suffer("next_child: a walk over a million atoms of 8 bytes", tiny.len(), 0, || (format!("{} children", walk(&tiny)), 48_000_000));
-    bench.suffer("cue_listing: a million atoms of 8 bytes", tiny.len(), 0, || (format!("refused {}", list(&tiny, b"roll", &mut [], &mut []).unwrap_err()), 0));
+    bench.suffer("next_child: a walk over a million atoms of 8 bytes", tiny.len(), 0, || walk(&tiny), |count| (format!("{count} children"), 48_000_000));
+    bench.suffer("cue_listing: a million atoms of 8 bytes", tiny.len(), 0, || list(&tiny, b"roll", &mut [], &mut []), |told| (format!("refused {}", told.unwrap_err()), 0));
 
     let lengths = black_box(sgpd(1_000_000, true));
-    bench.suffer("parse_sgpd: a million entries with lengths of their own", lengths.len(), 0, || (format!("{} entries", read(film_parse_sgpd, &lengths).1[4]), 40));
+    bench.suffer("parse_sgpd: a million entries with lengths of their own", lengths.len(), 0, || read(film_parse_sgpd, &lengths), |told| (format!("{} entries", told.1[4]), 40));
     for index in [1_000_000, 999_999, 500_000, 1] {
-        bench.suffer(&format!("entry_place: number {index} of the same"), lengths.len(), 0, || {
-            (format!("place {}", numbered(film_entry_place, &lengths, index).1[0]), 16)
+        bench.suffer(&format!("entry_place: number {index} of the same"), lengths.len(), 0, || numbered(film_entry_place, &lengths, index), |told| {
+            (format!("place {}", told.1[0]), 16)
         });
     }
-    bench.suffer("described_place: the same as film-wide and as fragment's", 2 * lengths.len(), 0, || {
-        (format!("place {}", described(&lengths, &lengths, 0x8000_0000 | 1_000_000).1[1]), 24)
+    bench.suffer("described_place: the same as film-wide and as fragment's", 2 * lengths.len(), 0, || described(&lengths, &lengths, 0x8000_0000 | 1_000_000), |told| {
+        (format!("place {}", told.1[1]), 24)
     });
 
     let long = black_box(rash(65_535));
-    bench.suffer("rash_operation_point: the last of 65,535 points", long.len(), 0, || (format!("bitrate {}", numbered(film_rash_operation_point, &long, 65_534).1[0]), 16));
+    bench.suffer("rash_operation_point: the last of 65,535 points", long.len(), 0, || numbered(film_rash_operation_point, &long, 65_534), |told| (format!("bitrate {}", told.1[0]), 16));
     let raw = black_box(vec![7; 1_000_000]);
-    bench.suffer("decode_alike: a million bytes, all the same", 2 * raw.len(), 0, || (format!("alike {}", alike(b"abcd", &raw, &raw).1), 8));
+    bench.suffer("decode_alike: a million bytes, all the same", 2 * raw.len(), 0, || alike(b"abcd", &raw, &raw), |told| (format!("alike {}", told.1), 8));
 
     // every row is a stretch: values that differ, in turn
     let apart = black_box(body(&csgp(b"roll", 0, &[(1_000_000, vec![1, 2])]), &sgpd_of(b"roll", &[vec![0, 1], vec![0, 2]])));
     let (mut run, mut listing) = (vec![0u32; 2_000_000], vec![0u8; 8_000_000]);
-    bench.suffer("cue_listing: a million rows, no two of them joined", apart.len(), 1_000_000, || {
-        let [length, count] = list(&apart, b"roll", &mut run, &mut listing).unwrap();
-        (format!("{count} rows, {length} bytes"), 8 * count + length)
-    });
+    bench.suffer("cue_listing: a million rows, no two of them joined", apart.len(), 1_000_000, || list(&apart, b"roll", &mut run, &mut listing), listed);
     let written_out = black_box(body(
         &csgp(b"roll", 0, &[(1_000_000, (0..1_000_000).map(|k| 1 + k % 15).collect())]),
         &sgpd_of(b"roll", &(0..15).map(|k| vec![0, k]).collect::<Vec<_>>()),
     ));
-    bench.suffer("cue_listing: the same, each index written out", written_out.len(), 1_000_000, || {
-        let [length, count] = list(&written_out, b"roll", &mut run, &mut listing).unwrap();
-        (format!("{count} rows, {length} bytes"), 8 * count + length)
-    });
+    bench.suffer("cue_listing: the same, each index written out", written_out.len(), 1_000_000, || list(&written_out, b"roll", &mut run, &mut listing), listed);
 }
