@@ -45,7 +45,7 @@ fn child_of(h: AtomHeader, at: u64, end: ParentEnd) -> NextChild
 }
 
 // The child at a place that is before its parent's end, if that is known, of an input within the limit. It has the tests of `read_atom_header` but
-// 55, which its caller has made; so the compiler puts the header's reading in place, and a child costs half of what it did with a call.
+// 55, which its caller has made; so the compiler puts the header's reading in place of a call.
 fn child_at(s: &[u8], at: u64, end: ParentEnd) -> NextChild
     requires { ⌜ length (now s) ≤ inputLimit ⌝ }
     ensures { λ r. ⌜ toldChild r ≡ andThen (headerAt (now (s .entry)) at) (λ h. andThen (endOf at (h .size) (parentEnd end)) (inside (parentEnd end) h)) ⌝ }
