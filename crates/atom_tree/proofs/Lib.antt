@@ -2,3 +2,4 @@ pub mod Cases
 pub mod Enums
 pub mod Headers
 pub mod Numbered
+pub mod Onward

@@ -1,27 +1,37 @@
 -- The numbers that headers, children and bodies refuse with.
+use mathlib.Core.Path.{_≡_, refl}
 use mathlib.Core.List.{List}
 use mathlib.Core.Option.{none, some}
 use Prim.Native.Nat.{ℕ, _+_}
 use lib.Dec.{ltb, leb, eqb}
 use lib.ListN.{length}
 use borrow.Author.Needs.{needs}
-use Rattle.base_fields.specs.Answer.{andThen}
+use Rattle.base_fields.specs.Answer as answer
+use Rattle.base_fields.specs.Answer.{Answer, given, refused, andThen}
 use Rattle.base_fields.specs.Number.{beAt}
 use Rattle.base_fields.specs.Span.{Span}
 use Rattle.base_fields.proofs.Numbered.{RefusesBy, Number, Numbered, by-choose, by-refuseIf, by-noneIf, by-within, by-andThen}
-use Rattle.atom_tree.specs.Atom.{Known, Header, lastPlace, headerAt, childAt, bodyAt, endOf, inside, pastEnd, declared, declaredAt, overEnvelope, bodyLimit, present, sizedHeader}
+use Rattle.atom_tree.specs.Atom.{Known, Header, Child, orDone, lastPlace, headerAt, childAt, bodyAt, endOf, inside, pastEnd, declared, declaredAt, overEnvelope, bodyLimit, present, sizedHeader}
 
 -- 8 of a body, whatever else is asked for
 pub declared-by : (R : ℕ → Type 0) (N : Type 0) → R 8 → (place n : ℕ) (size : Known) → RefusesBy R N (declared place n size)
 declared-by R N r place n none = r
 declared-by R N r place n (some size) = tt
 
+-- what follows each child of a walk
+module _ (R : ℕ → Type 0) (N : Type 0) where
+  pub followed : {A : Type 0} (a : Answer Child) (seen : A) (follow : Child → Answer A) → RefusesBy R Unit a → ((c : Child) → a ≡ given c → RefusesBy R N (follow c))
+      → RefusesBy R N (orDone a seen follow)
+  followed (given c) seen follow f g = g c refl
+  followed answer.none seen follow f g = tt
+  followed (refused n) seen follow f g = f
+
 -- none is the walker's done
 module _ (R : ℕ → Type 0) (s : List ℕ) (p : ℕ) where
   sized-by : R 5 → (size n : ℕ) → RefusesBy R Unit (sizedHeader s p (some size) n)
   sized-by r size n = by-refuseIf R Unit (ltb lastPlace (p + size)) 5 _ r tt
 
-  header-by : R 55 × R 1 × R 2 × R 3 × R 4 × R 5 → RefusesBy R Unit (headerAt s p)
+  pub header-by : R 55 × R 1 × R 2 × R 3 × R 4 × R 5 → RefusesBy R Unit (headerAt s p)
   unfolding headerAt
   header-by r =
       let size = beAt 4 s p in

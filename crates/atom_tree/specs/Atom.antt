@@ -6,6 +6,7 @@ use mathlib.Core.List.{List}
 use mathlib.Core.Option.{Option, none, some}
 use lib.Dec.{ltb, leb, eqb}
 use lib.ListN.{length}
+use Rattle.base_fields.specs.Answer as answer
 use Rattle.base_fields.specs.Answer.{Answer, given, refused, choose, refuseIf, noneIf, andThen, within}
 use Rattle.base_fields.specs.Number.{beAt}
 use Rattle.base_fields.specs.Span.{Span}
@@ -90,6 +91,12 @@ unfoldable pub childAt : List ℕ → ℕ → Known → Answer Child
 childAt s p end =
     within s
     (noneIf (pastEnd p end) (andThen (headerAt s p) (λ h. andThen (endOf p (h .size) end) (inside end h))))
+
+-- by what the walker answers: a child is followed, done ends the walk, a refusal stays
+abbrev pub orDone : {A : Type 0} → Answer Child → A → (Child → Answer A) → Answer A
+orDone (given c) done follow = follow c
+orDone answer.none done follow = given done
+orDone (refused n) done follow = refused n
 
 -- the body that a header declares: 8 where the atom is open
 abbrev pub declared : ℕ → ℕ → Known → Answer Span

@@ -15,7 +15,7 @@ use Rattle.base_fields.specs.Span.{Span}
 use Rattle.base_fields.proofs.Answers.{within-short}
 use Rattle.atom_tree.specs.Atom.{Known, Header, Child, Ends, childAt, declared}
 use Rattle.listing_spec.specs.Walk.{sbgpType, csgpType, sgpdType, TakenTable, sbgpAt, csgpAt, Taken, nothing, bodyOf, groupingOf, visitTable, visitSgpd, visit, walkFrom, found, sources}
-use Rattle.listing_spec.proofs.Walk.{EndsAt, child-onward}
+use Rattle.atom_tree.proofs.Onward.{EndsAt, child-onward}
 use Rattle.listing_walk.specs.Seen.{SpanEnds, EndsInside, namedBody, takeTable, takeSgpd}
 
 -- a body that is looked at, by its header's size
