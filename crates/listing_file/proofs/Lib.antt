@@ -1,0 +1,3 @@
+pub mod DemandThree
+pub mod From
+pub mod Numbered
