@@ -1,8 +1,25 @@
-// The C interface: the cue listing of an stbl's body.
+// The C interface: the cue listing of an stbl's body, and that of a track of a film.
 ghost use Rattle.listing_spec.specs.Cue.{cueCall};
-ghost use Rattle.film_listing.specs.Listing.{Lists};
+ghost use Rattle.listing_cue.specs.Told.{toldCue};
+ghost use Rattle.listing_file.specs.File.{fileCall};
+ghost use Rattle.film_status.specs.Status.{Returns};
+ghost use Rattle.film_listing.specs.Listing.{lengthNumbers, Lists};
 use base_ids::RowNumber;
 use listing_cue::CueListing;
+
+// Hands the lengths of a listing out.
+fn put_lengths(listed: CueListing, out: &mut [u64; 2]) -> u32
+    ensures { λ r. ⌜ Returns (toldCue listed) lengthNumbers (now (out .entry)) (now (out .exit)) r ⌝ }
+{
+    match listed {
+        CueListing::Listing(n) => {
+            out[0] = n.listing as u64;
+            out[1] = n.rows as u64;
+            0
+        }
+        CueListing::Refused(n) => n,
+    }
+}
 
 // out: the listing's length, the row count. The rows stand in front of the lent run, the listing in front of the output.
 #[no_mangle]
@@ -15,12 +32,22 @@ pub extern "C" fn film_cue_listing(
 ) -> u32
     ensures { λ r. ⌜ Lists (cueCall (now (body .entry)) «grouping_type» (now (rows .entry)) (now (listing .entry))) (now (rows .entry)) (now (rows .exit)) (now (listing .entry)) (now (listing .exit)) (now (out .entry)) (now (out .exit)) r ⌝ }
 {
-    match listing_cue::cue_listing(body, grouping_type, rows, listing) {
-        CueListing::Listing(n) => {
-            out[0] = n.listing as u64;
-            out[1] = n.rows as u64;
-            0
-        }
-        CueListing::Refused(n) => n,
-    }
+    let listed = listing_cue::cue_listing(body, grouping_type, rows, listing);
+    put_lengths(listed, out)
+}
+
+// The same for the stbl of a track of a film, counted from 0.
+#[no_mangle]
+pub extern "C" fn film_file_cue_listing(
+    s: &[u8],
+    track: u32,
+    grouping_type: u32,
+    rows: &mut [RowNumber],
+    listing: &mut [u8],
+    out: &mut [u64; 2],
+) -> u32
+    ensures { λ r. ⌜ Lists (fileCall (now (s .entry)) track «grouping_type» (now (rows .entry)) (now (listing .entry))) (now (rows .entry)) (now (rows .exit)) (now (listing .entry)) (now (listing .exit)) (now (out .entry)) (now (out .exit)) r ⌝ }
+{
+    let listed = listing_file::file_cue_listing(s, track, grouping_type, rows, listing);
+    put_lengths(listed, out)
 }

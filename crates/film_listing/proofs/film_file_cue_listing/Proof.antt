@@ -1,0 +1,25 @@
+-- The listing by its contract, the status and `out` by `put_lengths`.
+use Rattle.film_listing.proofs.Lists.{lists}
+use borrow.Author.Needs.{needs}
+use Rattle.film_listing.proofs.film_file_cue_listing.Statement.{statement}
+use Rattle.film_listing.proofs.film_file_cue_listing.Tie as tie
+
+file-cue-listing-requires : tie.Need-file-cue-listing-requires
+file-cue-listing-requires c κs = search needs
+
+put-lengths-requires : tie.Need-put-lengths-requires
+put-lengths-requires c κs = search needs
+
+same-length : tie.Need-same-length
+same-length c = search needs
+
+same-length-2 : tie.Need-same-length-2
+same-length-2 c = search needs
+
+returns : tie.Need-returns
+returns c = lists (c .before .before .before .before .before .before .file-cue-listing .ensures) (c .put-lengths .ensures)
+
+pub film-file-cue-listing-spec : {M : Type 1} → statement M
+film-file-cue-listing-spec =
+    tie.close
+    (tie.spec file-cue-listing-requires put-lengths-requires same-length same-length-2 returns)
