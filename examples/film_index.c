@@ -178,6 +178,29 @@ static void listing(void) {
     expect("film_cue_listing", output[12], 0x77);
     expect("film_cue_listing", rows[0] == 2 && rows[1] == 1 && rows[2] == 1 && rows[3] == 0, 1);
     expect("film_cue_listing", rows[4], 0x77777777);
+
+    /* The same body as the only track of a film: moov, trak, mdia, minf and stbl, each in the one before it, all but the innermost with one child. */
+    static const char *const path[] = {"moov", "trak", "mdia", "minf", "stbl"};
+    uint8_t movie[5 * 8 + 62];
+    for (unsigned level = 0; level < 5; level++) {
+        uint8_t *header = movie + 8 * level;
+        header[0] = header[1] = header[2] = 0;
+        header[3] = (uint8_t)(sizeof movie - 8 * level);
+        memcpy(header + 4, path[level], 4);
+    }
+    memcpy(movie + 40, body, 62);
+    expect("film_find_stbl", film_find_stbl(movie, sizeof movie, 0, lengths), FILM_OK);
+    expect("film_find_stbl", lengths[0], 40);
+    expect("film_find_stbl", lengths[1], 62);
+    expect("film_find_stbl", film_find_stbl(movie, sizeof movie, 1, lengths), FILM_NO_TRACK);
+    expect("film_find_stbl", film_find_stbl(movie, sizeof movie - 1, 0, lengths), FILM_BODY_CUT);
+    memset(output, 0x77, sizeof output);
+    expect("film_file_cue_listing", film_file_cue_listing(movie, sizeof movie, 0, 0x726f6c6c, rows, 6, output, 16, lengths), FILM_OK);
+    expect("film_file_cue_listing", lengths[0], sizeof want);
+    expect("film_file_cue_listing", memcmp(output, want, sizeof want) == 0, 1);
+    expect("film_file_cue_listing", output[12], 0x77);
+    movie[39] = 'x';
+    expect("film_file_cue_listing", film_file_cue_listing(movie, sizeof movie, 0, 0x726f6c6c, rows, 6, output, 16, lengths), FILM_NO_CONTAINER);
 }
 
 int main(void) {

@@ -87,6 +87,9 @@ typedef uint64_t film_size;
 #define FILM_OUTPUT_TOO_SHORT 54u      /* the listing is longer than the output */
 /* Refusals: every function with an input */
 #define FILM_INPUT_TOO_LONG 55u
+/* Refusals: the search for a track's stbl */
+#define FILM_NO_TRACK 60u              /* no moov, or no such trak in the first one */
+#define FILM_NO_CONTAINER 61u          /* no mdia in the trak, no minf in the mdia, or no stbl in the minf */
 
 /* Atoms. A place is counted in bytes from the first byte of `s`. */
 
@@ -104,6 +107,12 @@ uint32_t film_read_payload(const uint8_t *s, film_size len, uint64_t at, uint64_
 
 /* The same where the body may have at most `max_remaining` bytes. */
 uint32_t film_read_payload_bounded(const uint8_t *s, film_size len, uint64_t at, uint64_t max_remaining, uint64_t out[2]);
+
+/* The body of the stbl of track number `track`, counted from 0, in the front of a film: in the first moov that trak, in it the first mdia, in that the first minf, in
+ * that the first stbl. Each of them is walked to its end before the one that was found in it is used, so that a fault behind it wins. At the top an atom may pass the
+ * given bytes, but the first moov, if it does, is FILM_BODY_CUT. An open-ended atom ends where its parent does, or the given bytes at the top.
+ * out: place and length of the body. */
+uint32_t film_find_stbl(const uint8_t *s, size_t len, uint32_t track, uint64_t out[2]);
 
 /* Sample tables. `s` is the payload of an sbgp or a csgp. `rows` is a run of `rows_len` numbers, two for each record: a sample count and a description index. So
  * rows_len is twice the number of records, and after n rows were written, lookups over them take 2 * n; a last number without a partner is no record. With FILM_OK the
@@ -178,6 +187,9 @@ uint64_t film_rate_of_point(uint32_t bitrate, uint16_t share);
  * type; a second table, a second sgpd of this type); FILM_NO_TABLE; FILM_NO_SGPD; the table's; the sgpd's; the decoder's, for the entries of samples, in their order;
  * FILM_OUTPUT_TOO_SHORT. */
 uint32_t film_cue_listing(const uint8_t *body, film_size len, uint32_t grouping_type, uint32_t *rows, film_size rows_len, uint8_t *listing, film_size listing_len, uint64_t out[2]);
+
+/* The same for a track of a film: the refusals of film_find_stbl, else the cue listing of the body that it finds. */
+uint32_t film_file_cue_listing(const uint8_t *s, size_t len, uint32_t track, uint32_t grouping_type, uint32_t *rows, size_t rows_len, uint8_t *listing, size_t listing_len, uint64_t out[2]);
 
 #ifdef __cplusplus
 }

@@ -70,6 +70,8 @@ refusals! {
     SecondSgpd = 53,
     OutputTooShort = 54,
     InputTooLong = 55,
+    NoTrack = 60,
+    NoContainer = 61,
 }
 
 impl Refusal {
@@ -87,6 +89,7 @@ pub mod raw {
         pub fn film_next_child(s: *const u8, len: usize, at: u64, known: u32, end: u64, out: *mut [u64; 6]) -> u32;
         pub fn film_read_payload(s: *const u8, len: usize, at: u64, out: *mut [u64; 2]) -> u32;
         pub fn film_read_payload_bounded(s: *const u8, len: usize, at: u64, max_remaining: u64, out: *mut [u64; 2]) -> u32;
+        pub fn film_find_stbl(s: *const u8, len: usize, track: u32, out: *mut [u64; 2]) -> u32;
         pub fn film_parse_sbgp(s: *const u8, len: usize, rows: *mut u32, rows_len: usize, out: *mut [u64; 3]) -> u32;
         pub fn film_parse_csgp(s: *const u8, len: usize, rows: *mut u32, rows_len: usize, out: *mut [u64; 3]) -> u32;
         pub fn film_sbgp_rows_needed(s: *const u8, len: usize, out: *mut [u64; 1]) -> u32;
@@ -112,6 +115,17 @@ pub mod raw {
         pub fn film_cue_listing(
             body: *const u8,
             len: usize,
+            grouping_type: u32,
+            rows: *mut u32,
+            rows_len: usize,
+            listing: *mut u8,
+            listing_len: usize,
+            out: *mut [u64; 2],
+        ) -> u32;
+        pub fn film_file_cue_listing(
+            s: *const u8,
+            len: usize,
+            track: u32,
             grouping_type: u32,
             rows: *mut u32,
             rows_len: usize,
@@ -183,6 +197,12 @@ pub fn read_payload(s: &[u8], at: u64) -> Result<Option<&[u8]>> {
 pub fn read_payload_bounded(s: &[u8], at: u64, max_remaining: u64) -> Result<Option<&[u8]>> {
     let told = call(|out| unsafe { raw::film_read_payload_bounded(s.as_ptr(), s.len(), at, max_remaining, out) })?;
     Ok(told.map(|[place, size]| part(s, place, size)))
+}
+
+/// The body of the stbl of a track, counted from 0, in the front of a film.
+pub fn find_stbl(s: &[u8], track: u32) -> Result<&[u8]> {
+    let [place, size] = value(|out| unsafe { raw::film_find_stbl(s.as_ptr(), s.len(), track, out) })?;
+    Ok(part(s, place, size))
 }
 
 /// A row: so many samples of one description index. A slice of rows lies in memory as the pairs of numbers that C has.
@@ -425,5 +445,13 @@ pub fn cue_listing(body: &[u8], grouping_type: [u8; 4], rows: &mut [SampleToGrou
     let kind = u32::from_be_bytes(grouping_type);
     let (run, numbers, output, room) = (rows.as_mut_ptr().cast(), 2 * rows.len(), listing.as_mut_ptr(), listing.len());
     let [length, count] = value(|out| unsafe { raw::film_cue_listing(body.as_ptr(), body.len(), kind, run, numbers, output, room, out) })?;
+    Ok(CueListing { length: length as usize, entry_count: count as usize })
+}
+
+/// The same for a track, counted from 0, of the front of a film.
+pub fn file_cue_listing(s: &[u8], track: u32, grouping_type: [u8; 4], rows: &mut [SampleToGroupEntry], listing: &mut [u8]) -> Result<CueListing> {
+    let kind = u32::from_be_bytes(grouping_type);
+    let (run, numbers, output, room) = (rows.as_mut_ptr().cast(), 2 * rows.len(), listing.as_mut_ptr(), listing.len());
+    let [length, count] = value(|out| unsafe { raw::film_file_cue_listing(s.as_ptr(), s.len(), track, kind, run, numbers, output, room, out) })?;
     Ok(CueListing { length: length as usize, entry_count: count as usize })
 }

@@ -36,7 +36,7 @@ fn numbers(h: &AtomHeader) -> [u64; 5] {
     [u32::from_be_bytes(h.fourcc) as u64, size.is_none() as u64, size.unwrap_or(0), h.header_len, h.payload_offset]
 }
 
-fn at_place(s: &[u8], at: u64) -> Cursor<&[u8]> {
+pub fn at_place(s: &[u8], at: u64) -> Cursor<&[u8]> {
     let mut r = Cursor::new(s);
     r.seek(SeekFrom::Start(at)).unwrap();
     r

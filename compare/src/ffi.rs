@@ -167,6 +167,12 @@ pub fn read_payload_bounded(s: &Input, len: usize, at: u64, max_remaining: u64) 
     held(told, len, || maybe(module::read_payload_bounded(s.bytes(len), at, max_remaining)).map(|part| s.place(part)))
 }
 
+/// The place and the length of the body of a track's stbl.
+pub fn find_stbl(s: &Input, len: usize, track: u32) -> Answer<[u64; 2]> {
+    let told = with_out(|out| unsafe { raw::film_find_stbl(s.part(len), len, track, out) });
+    held(told, len, || Answer::from(module::find_stbl(s.bytes(len), track)).map(|part| s.place(part)))
+}
+
 /// A table as its reader hands it out: type, parameter and rows (count, index).
 pub type Table = (u32, u32, Vec<(u32, u32)>);
 
@@ -341,13 +347,15 @@ pub type Listing = (Vec<u8>, Vec<(u32, u32)>);
 const BYTE_GUARD: u8 = 0xc3;
 const OTHER_GUARD: u8 = 0x3c;
 
+type RawListing<'a> = &'a dyn Fn(*mut u32, *mut u8, *mut [u64; 2]) -> u32;
+type ModuleListing<'a> = &'a dyn Fn(&mut [SampleToGroupEntry], &mut [u8]) -> module::Result<module::CueListing>;
+
 /// A run of `numbers` numbers and an output of `room` bytes between guards. Only the rows and the listing in front of them are written.
-pub fn cue_listing(s: &Input, len: usize, kind: [u8; 4], numbers: usize, room: usize) -> Answer<Listing> {
+fn with_listing(len: usize, numbers: usize, room: usize, call: RawListing, asked: ModuleListing) -> Answer<Listing> {
     let mut run = vec![ROW_GUARD; numbers + 2 * GUARDS];
     let mut output = vec![BYTE_GUARD; room + 2 * GUARDS];
     let (rows, bytes) = (run[GUARDS..].as_mut_ptr(), output[GUARDS..].as_mut_ptr());
-    let number = u32::from_be_bytes(kind);
-    let told = with_out::<2>(|out| unsafe { raw::film_cue_listing(s.part(len), len, number, rows, numbers, bytes, room, out) });
+    let told = with_out::<2>(|out| call(rows, bytes, out));
     let (length, count) = match &told {
         Answer::Given([length, rows]) => (*length as usize, 2 * *rows as usize),
         _ => (0, 0),
@@ -359,11 +367,24 @@ pub fn cue_listing(s: &Input, len: usize, kind: [u8; 4], numbers: usize, room: u
     let told = told.map(|_| (output[GUARDS..GUARDS + length].to_vec(), written));
     held(told, len, || {
         let (mut lent, mut output) = (vec![ROW; numbers / 2], vec![OTHER_GUARD; room]);
-        let told = module::cue_listing(s.bytes(len), kind, &mut lent, &mut output);
+        let told = asked(&mut lent, &mut output);
         let (count, length) = told.as_ref().map_or((0, 0), |told| (told.entry_count, told.length));
         assert!(lent[count..].iter().all(|&row| row == ROW), "a row behind the rows was written");
         assert!(output[length..].iter().all(|&g| g == OTHER_GUARD), "a byte behind the listing was written");
         let rows = lent[..count].iter().map(|row| (row.sample_count, row.group_description_index)).collect();
         Answer::from(told).map(|_| (output[..length].to_vec(), rows))
     })
+}
+
+pub fn cue_listing(s: &Input, len: usize, kind: [u8; 4], numbers: usize, room: usize) -> Answer<Listing> {
+    let number = u32::from_be_bytes(kind);
+    let call = |rows, bytes, out| unsafe { raw::film_cue_listing(s.part(len), len, number, rows, numbers, bytes, room, out) };
+    with_listing(len, numbers, room, &call, &|rows, output| module::cue_listing(s.bytes(len), kind, rows, output))
+}
+
+/// The same for a track of a film.
+pub fn file_cue_listing(s: &Input, len: usize, track: u32, kind: [u8; 4], numbers: usize, room: usize) -> Answer<Listing> {
+    let number = u32::from_be_bytes(kind);
+    let call = |rows, bytes, out| unsafe { raw::film_file_cue_listing(s.part(len), len, track, number, rows, numbers, bytes, room, out) };
+    with_listing(len, numbers, room, &call, &|rows, output| module::file_cue_listing(s.bytes(len), track, kind, rows, output))
 }

@@ -24,6 +24,8 @@ pub fn run(tally: &mut Tally) {
             check("read_payload", too_long(ffi::read_payload(&long, len, at)));
             check("read_payload_bounded", too_long(ffi::read_payload_bounded(&long, len, at, 0)));
         }
+        check("find_stbl", too_long(ffi::find_stbl(&long, len, 0)));
+        check("file_cue_listing", too_long(ffi::file_cue_listing(&long, len, 0, *b"roll", 4, 16)));
         check("parse_sbgp", too_long(ffi::parse_sbgp(&long, len, 4)));
         check("parse_csgp", too_long(ffi::parse_csgp(&long, len, 4)));
         check("sbgp_rows_needed", too_long(ffi::sbgp_rows_needed(&long, len)));

@@ -358,7 +358,7 @@ fn values(random: &mut Random, kind: &[u8; 4], most: u64) -> Vec<Vec<u8>> {
     values
 }
 
-fn film(random: &mut Random, samples: u64) -> Film {
+pub fn film(random: &mut Random, samples: u64) -> Film {
     let kind = *random.pick(&TYPES);
     let values = values(random, &kind, 4);
     let cues = stbl::cues(random, values.len(), samples);

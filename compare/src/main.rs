@@ -5,6 +5,7 @@ mod atoms;
 mod csgp;
 mod entries;
 mod ffi;
+mod film;
 mod limits;
 mod listing;
 mod random;
@@ -46,7 +47,7 @@ pub fn main() {
         }
         return;
     }
-    let parts: [fn(&mut tally::Tally); 11] = [
+    let parts: [fn(&mut tally::Tally); 12] = [
         csgp::run,
         csgp::run_long,
         atoms::run,
@@ -58,6 +59,7 @@ pub fn main() {
         limits::run,
         listing::run,
         listing::run_pairs,
+        film::run,
     ];
     let tallies = std::thread::scope(|threads| {
         let running = parts.map(|part| {
