@@ -7,6 +7,7 @@ use super::listing;
 use super::random::Random;
 use super::stbl;
 use super::tally::Tally;
+use super::vectors::Vectors;
 use crate::atom;
 
 /// The body of an atom that ends at `end`: empty where its header passes that end.
@@ -195,4 +196,47 @@ fn large(tally: &mut Tally, random: &mut Random) {
         }
         input.check();
     }
+}
+
+/// Short films, whole, damaged and cut, and a header at the top and in each container that is refused; a fault behind the match among them.
+pub fn vectors(out: &mut Vectors) {
+    let random = &mut Random::new(0xa11);
+    let mut add = |s: &[u8]| {
+        for track in [0, 1] {
+            if s.len() <= 150 {
+                out.add(24, &[track], s, find(s, track as u32).map(|n| n.to_vec()));
+            }
+        }
+    };
+    let mut path = vec![9u8, 9];
+    for kind in PATH.iter().rev() {
+        path = wrapped_plain(kind, &path);
+    }
+    add(&path);
+    add(&[&path[..], &path[..]].concat());
+    for fault in [&[0u8, 0, 0][..], &[0, 0, 0, 1, b'a', b'b', b'c', b'd', 0], &[0, 0, 0, 7, b'f', b'r', b'e', b'e'], &extended(15), &extended(u64::MAX)] {
+        add(&[&path[..], fault].concat());
+        let mut inner = vec![9u8];
+        for (k, kind) in PATH.iter().rev().enumerate() {
+            let behind = if k == 2 { fault } else { &[] };
+            inner = [&wrapped_plain(kind, &inner)[..], behind].concat();
+        }
+        add(&wrapped_plain(b"free", &inner));
+        add(&inner);
+    }
+    for _ in 0..400 {
+        let stbl = random.bytes(3);
+        let s = if random.one_in(2) { whole(random, 1, &stbl) } else { children(random, 0, &stbl) };
+        add(&s);
+        let cut = random.below(s.len() as u64 + 1) as usize;
+        add(&s[..cut]);
+    }
+}
+
+fn wrapped_plain(kind: &[u8; 4], body: &[u8]) -> Vec<u8> {
+    [&(body.len() as u32 + 8).to_be_bytes()[..], kind, body].concat()
+}
+
+fn extended(size: u64) -> Vec<u8> {
+    [&1u32.to_be_bytes()[..], b"free", &size.to_be_bytes()].concat()
 }

@@ -19,7 +19,7 @@ mod vectors;
 /// The longest input of document 01's domain.
 const MIB: usize = 1 << 20;
 
-/// The files of stored vectors that hold right answers, but for the listing's.
+/// The files of stored vectors that hold right answers, but for those of the listing and of films.
 const FILES: [&str; 4] = ["atoms", "tables", "document", "descriptions"];
 
 fn vectors_of(name: &str) -> vectors::Vectors {
@@ -30,6 +30,7 @@ fn vectors_of(name: &str) -> vectors::Vectors {
         "document" => &[sbgp::document, csgp::document],
         "descriptions" => &[sgpd::vectors, entries::vectors],
         "listing" => &[listing::vectors],
+        "films" => &[film::vectors],
         _ => panic!("vectors of what?"),
     };
     parts.iter().for_each(|part| part(&mut vectors));
@@ -42,7 +43,7 @@ pub fn main() {
         assert!(word == "vectors", "vectors of what?");
         match name.as_str() {
             "damaged" => vectors::print_damaged(&FILES.map(vectors_of)),
-            "damaged_listing" => vectors::print_damaged_listing(&["listing"].map(vectors_of)),
+            "damaged_listing" => vectors::print_damaged_listing(&["listing", "films"].map(vectors_of)),
             name => vectors_of(name).print(),
         }
         return;

@@ -34,9 +34,11 @@ const STATUSES: [(u8, &[u8]); 22] = [
     (22, &[20, 21, 22, 24, 25, 26, 27, 28]),
 ];
 
-/// The same of the cue listing, whose damaged lines are a file of their own.
-const LISTING: [(u8, &[u8]); 1] =
-    [(23, &[1, 2, 3, 4, 5, 6, 8, 20, 21, 22, 23, 24, 25, 26, 27, 28, 29, 30, 31, 32, 33, 34, 35, 40, 41, 42, 43, 44, 45, 50, 51, 52, 53, 54])];
+/// The same of the cue listing and of the search for an stbl, whose damaged lines are a file of their own.
+const LISTING: [(u8, &[u8]); 2] = [
+    (24, &[1, 2, 3, 4, 5, 6, 11, 60, 61]),
+    (23, &[1, 2, 3, 4, 5, 6, 8, 20, 21, 22, 23, 24, 25, 26, 27, 28, 29, 30, 31, 32, 33, 34, 35, 40, 41, 42, 43, 44, 45, 50, 51, 52, 53, 54]),
+];
 
 #[derive(Clone, PartialEq, Eq, PartialOrd, Ord)]
 struct Line {

@@ -31,6 +31,7 @@ fn agrees(record: &[u8]) -> bool {
         5..=8 => test_vectors_tables::agrees(record),
         21..=22 => test_vectors_tables::agrees(record),
         23 => test_vectors_listing::agrees(record),
+        24 => test_vectors_atoms::agrees(record),
         _ => test_vectors_descriptions::agrees(record),
     }
 }
@@ -74,6 +75,7 @@ fn replay(name: &[u8]) {
 
 fn main() {
     replay(b"atoms");
+    replay(b"films");
     replay(b"tables");
     replay(b"document");
     replay(b"descriptions");
