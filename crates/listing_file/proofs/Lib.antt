@@ -1,3 +1,4 @@
 pub mod DemandThree
+pub mod Fits
 pub mod From
 pub mod Numbered

@@ -1,0 +1,137 @@
+// Prints the cue listing of a track of a film (document 02, A1): the film's file name, the track from 0 and four type bytes as arguments, one line of
+// lower-case hexadecimal on standard output, or why there is none. With the further argument `words` the listing is told in words, a stretch a line.
+mod arguments;
+mod numbers;
+mod words;
+
+use arguments::ReadTrack;
+use arguments::is_words;
+use arguments::read_track;
+use libc::STDOUT_FILENO;
+use listing_cue::CueListing;
+use words::print_words;
+
+// The digits of each byte.
+fn print_listing(listing: &[u8]) {
+    let mut i = 0;
+    while i < listing.len() {
+        io::print_hex(STDOUT_FILENO, listing[i] as u64, 2);
+        i = i + 1;
+    }
+    io::write_all(STDOUT_FILENO, b"\n");
+}
+
+fn print_refused(n: u32) {
+    io::write_all(STDOUT_FILENO, b"refused ");
+    io::print_decimal(STDOUT_FILENO, n as u64);
+    io::write_all(STDOUT_FILENO, b"\n");
+}
+
+fn print_told(listing: &[u8], in_words: bool) {
+    if in_words {
+        print_words(listing);
+    } else {
+        print_listing(listing);
+    }
+}
+
+// The listing of a track, by what is lent for its rows and its bytes.
+fn print_cue(
+    film: &[u8],
+    track: u32,
+    grouping_type: u32,
+    in_words: bool,
+    rows: &mut [u32],
+    listing: &mut [u8],
+) {
+    match listing_file::file_cue_listing(film, track, grouping_type, rows, listing) {
+        CueListing::Listing(lengths) => {
+            let end = lengths.listing;
+            print_told(&listing[..end], in_words);
+        }
+        CueListing::Refused(code) => print_refused(code),
+    }
+}
+
+fn print_no_film() {
+    io::write_all(STDOUT_FILENO, b"no film\n");
+}
+
+// The listing of a track of the film in an open file. A film that fills its room is longer than what is held.
+fn print_read(file: i32, film: &mut [u8], track: u32, grouping_type: u32, in_words: bool) {
+    let n = io::read_full(file, film);
+    // A read that failed fails again; at the end of a file it gives 0.
+    let mut behind = [0u8; 1];
+    if libc::read(file, &mut behind) < 0 {
+        return print_no_film();
+    }
+    if film.len() <= n {
+        io::write_all(STDOUT_FILENO, b"too long\n");
+        return;
+    }
+    let mut rows = [0u32; 4096];
+    let mut listing = [0u8; 16384];
+    print_cue(
+        &film[..n],
+        track,
+        grouping_type,
+        in_words,
+        &mut rows,
+        &mut listing,
+    );
+}
+
+// The listing of a track of the film in a file.
+fn print_file(name: &[u8], track: u32, grouping_type: u32, in_words: bool) {
+    let file = os::open_read(name);
+    if file < 0 {
+        return print_no_film();
+    }
+    // One byte more than is held tells that there is more.
+    let mut film = [0u8; 262145];
+    print_read(file, &mut film, track, grouping_type, in_words);
+    libc::close(file);
+}
+
+fn print_usage() {
+    io::write_all(STDOUT_FILENO, b"usage: cue_film FILM TRACK TYPE [words]\n");
+}
+
+fn main() {
+    let count = os::arg_count();
+    if count < 4 {
+        print_usage();
+        return;
+    }
+    if 5 < count {
+        print_usage();
+        return;
+    }
+    // An argument that is longer than its room has length 0.
+    let mut name = io::buffer();
+    let name_end = os::arg(1, &mut name);
+    let mut digits = [0u8; 10];
+    let digits_end = os::arg(2, &mut digits);
+    let mut fourcc = [0u8; 4];
+    let fourcc_end = os::arg(3, &mut fourcc);
+    let mut word = [0u8; 5];
+    let word_end = os::arg(4, &mut word);
+    let in_words = is_words(&word[..word_end]);
+    if count == 5 {
+        if !in_words {
+            print_usage();
+            return;
+        }
+    }
+    if fourcc_end != 4 {
+        print_usage();
+        return;
+    }
+    match read_track(&digits[..digits_end]) {
+        ReadTrack::Track(track) => {
+            let grouping_type = base_fields::read_u32(&fourcc, 0);
+            print_file(&name[..name_end], track, grouping_type, in_words);
+        }
+        ReadTrack::Nothing => print_usage(),
+    }
+}
