@@ -112,6 +112,8 @@ static void descriptions(void) {
     expect("film_described_place", part[2], 2);
     expect("film_described_place", film_described_place(sgpd, 11, sgpd, 18, 1, part), FILM_SHORT_SGPD);
     expect("film_rate_of_point", film_rate_of_point(4294967295u, 65535), UINT64_C(2814706816778));
+    expect("film_rate_of_point, a half", film_rate_of_point(50, 1), 0);
+    expect("film_rate_of_point, a half", film_rate_of_point(150, 1), 2);
 }
 
 static void entries(void) {

@@ -170,7 +170,7 @@ uint32_t film_split_csgp_index(uint32_t raw, uint64_t out[2]);
  * out: 1 for the fragment's, place and length in that payload. */
 uint32_t film_described_place(const uint8_t *film, film_size film_len, const uint8_t *fragment, film_size fragment_len, uint32_t raw, uint64_t out[3]);
 
-/* The value bitrate * share / 100, rounded down. */
+/* The value bitrate * share / 100, rounded to the nearest; an exact half goes to the even number. */
 uint64_t film_rate_of_point(uint32_t bitrate, uint16_t share);
 
 /* Cue listing. */

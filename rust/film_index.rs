@@ -426,7 +426,7 @@ pub fn described<'a>(film: &'a [u8], fragment: &'a [u8], raw: u32) -> Result<Opt
     Ok(told.map(|[local, place, size]| part(if local == 1 { fragment } else { film }, place, size)))
 }
 
-/// bitrate * share / 100, rounded down.
+/// bitrate * share / 100, rounded to the nearest; an exact half goes to the even number.
 pub fn rate_of_point(bitrate: u32, share: u16) -> u64 {
     unsafe { raw::film_rate_of_point(bitrate, share) }
 }

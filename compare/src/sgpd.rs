@@ -199,9 +199,16 @@ fn fragments(tally: &mut Tally, random: &mut Random) {
         let split = sample_groups::split_csgp_index(raw);
         tally.same("split_csgp_index", ffi::split_csgp_index(raw), Answer::Given([split.index as u64, split.fragment_local as u64]), &|| format!("{raw:08x}"));
     }
-    // The rate of a point has no counterpart in the Rust: document 01's formula.
-    for (bitrate, share) in [(0, 0), (50, 1), (99, 1), (100, 1), (u32::MAX, u16::MAX), (12345, 67)] {
-        tally.same("rate_of_point", ffi::rate_of_point(bitrate, share), bitrate as u64 * share as u64 / 100, &|| format!("{bitrate} {share}"));
+    // The rate of a point has no counterpart in the Rust: half a hundred is added and the rest dropped, and where nothing was dropped at an odd
+    // number, it was an exact half, which belongs to the even one below.
+    let nearest = |x: u64| {
+        let up = (x + 50) / 100;
+        if (x + 50) % 100 == 0 && up % 2 == 1 { up - 1 } else { up }
+    };
+    for bitrate in [0, 1, 2, 49, 50, 51, 99, 100, 101, 149, 150, 151, 249, 250, 251, 349, 350, 351, 12345, 1 << 31, u32::MAX - 50, u32::MAX - 1, u32::MAX] {
+        for share in 0..=u16::MAX {
+            tally.same("rate_of_point", ffi::rate_of_point(bitrate, share), nearest(bitrate as u64 * share as u64), &|| format!("{bitrate} {share}"));
+        }
     }
 }
 

@@ -1,2 +1,3 @@
 pub mod Two
 pub mod Numbered
+pub mod Rate

@@ -1,9 +1,9 @@
 -- Part 9 of document 01: a film-wide sgpd and a fragment one, and bit 31 of a csgp index that picks between them.
-use Prim.Native.Nat.{ℕ, _*_, _/_, _%_}
+use Prim.Native.Nat.{ℕ, _+_, _*_, _/_, _%_}
 use mathlib.Core.Path.{_≡_}
 use mathlib.Core.Bool.{Bool, true, false}
 use mathlib.Core.List.{List, []}
-use lib.Dec.{eqb}
+use lib.Dec.{ltb, eqb}
 use Rattle.base_fields.specs.Answer.{Answer, given, none, refused, choose, andThen, within}
 use Rattle.group_sgpd.specs.Sgpd.{sgpd, pick}
 use Rattle.base_fields.specs.Span.{Span, bytesAt, PartAt}
@@ -51,6 +51,10 @@ pub record GivesDescribed (told : Answer Part) (film fragment : List ℕ) (filmA
   pub bytes : part ≡ bytesOf film fragment told
   pub place : PlaceOf told filmAt fragmentAt at
 
--- the rate of a point: bitrate times share over 100, rounded down
-abbrev pub rateOf : ℕ → ℕ → ℕ
-rateOf bitrate share = bitrate * share / 100
+-- what rounding to the nearest adds to a number of hundreds q where r is left over: an exact half goes to the even one
+abbrev pub roundUp : ℕ → ℕ → ℕ
+roundUp q r = choose (ltb r 50) 0 (choose (ltb 50 r) 1 (q % 2))
+
+-- the rate of a point: bitrate times share over 100, rounded to the nearest, an exact half to the even one (document 02, A2)
+unfoldable pub rateOf : ℕ → ℕ → ℕ
+rateOf bitrate share = bitrate * share / 100 + roundUp (bitrate * share / 100) (bitrate * share % 100)

@@ -103,9 +103,18 @@ pub fn described<'a>(film: &'a [u8], fragment: &'a [u8], raw: u32) -> &'a [u8]
     }
 }
 
-// The bitrate of a point, of which a share is given in percent.
+// The bitrate of a point, of which a share is given in percent: rounded to the nearest, an exact half to the even one.
 pub fn rate_of_point(bitrate: u32, share: u16) -> u64
     ensures { λ r. ⌜ r ≡ rateOf bitrate share ⌝ }
 {
-    (bitrate as u64) * (share as u64) / 100
+    let product = (bitrate as u64) * (share as u64);
+    let hundreds = product / 100;
+    let rest = product % 100;
+    if rest < 50 {
+        return hundreds;
+    }
+    if 50 < rest {
+        return hundreds + 1;
+    }
+    hundreds + hundreds % 2
 }
