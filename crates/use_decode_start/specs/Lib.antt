@@ -1,2 +1,4 @@
 pub mod Start
 pub mod Told
+pub mod Inner
+pub mod From

@@ -1,9 +1,26 @@
 // Where decoding begins for a frame (document 02, A3): the latest sample from which a decoder can start and be clean in time.
+mod distances;
+mod positions;
+mod search;
+
 ghost use Rattle.base_fields.specs.Fourcc as fourcc_of;
 ghost use Rattle.use_decode_start.specs.Start.{GivesStart};
 ghost use Rattle.use_decode_start.specs.Told.{toldStart};
+ghost use Rattle.use_decode_start.specs.From.{searchedFrom, GivesBy};
 use base_fields::fourcc;
 use base_ids::SampleNumber;
+use group_sgpd::ReadHead;
+use group_sgpd::entry_marks;
+use group_sgpd::read_sgpd;
+use listing_walk::FoundSources;
+use listing_walk::find_sources;
+use search::search_table;
+use table_csgp::measure::Measured;
+use table_front::TableKind;
+use table_records::count_rows;
+use table_runs::ReadTable;
+use table_runs::count_samples;
+use table_runs::read_table;
 
 pub enum DecodeStart {
     Sample(SampleNumber),
@@ -11,11 +28,92 @@ pub enum DecodeStart {
     Refused(u32),
 }
 
+// The distance of a member; nothing of other samples.
+enum Distance {
+    Nothing,
+    // 0 or more.
+    Ahead(u64),
+    // The size of a negative one, less 1.
+    Behind(u64),
+}
+
+// The distance of an index, or its decoder's refusal.
+enum Decoded {
+    Distance(Distance),
+    Refused(u32),
+}
+
+// A sample, or none.
+enum Latest {
+    Nothing,
+    Sample(u64),
+}
+
+// The greatest begin so far, or a decoder's refusal.
+enum SearchedFor {
+    Latest(Latest),
+    Refused(u32),
+}
+
+// More records than any table has rows.
+const UNLIMITED: usize = 18446744073709551615;
+
+// What follows the walk: the payloads of the table and of the sgpd.
+fn start_in(
+    kind: TableKind,
+    table_s: &[u8],
+    s: &[u8],
+    grouping_type: u32,
+    frame: SampleNumber,
+) -> DecodeStart
+    ensures { λ r. ⌜ GivesBy (searchedFrom kind (now («table_s» .entry)) (now (s .entry)) «grouping_type» (frame .0)) «grouping_type» (frame .0) (toldStart r) ⌝ }
+{
+    let table = match read_table(table_s, kind) {
+        ReadTable::Table(t) => t,
+        ReadTable::Refused(n) => return DecodeStart::Refused(n),
+    };
+    if let Measured::Refused(n) = count_rows(table_s, table, UNLIMITED) {
+        return DecodeStart::Refused(n);
+    }
+    let head = match read_sgpd(s) {
+        ReadHead::Head(h) => h,
+        ReadHead::Refused(n) => return DecodeStart::Refused(n),
+    };
+    let wanted = frame.0 as u64;
+    if count_samples(table_s, table) <= wanted {
+        return DecodeStart::Refused(62);
+    }
+    let marks = entry_marks(s, head);
+    let latest = match search_table(table_s, table, s, head, &marks, grouping_type, wanted) {
+        SearchedFor::Latest(b) => b,
+        SearchedFor::Refused(n) => return DecodeStart::Refused(n),
+    };
+    match latest {
+        Latest::Nothing => DecodeStart::Nothing,
+        Latest::Sample(k) => DecodeStart::Sample(SampleNumber(k as u32)),
+    }
+}
+
 // For a type with distances.
 fn decode_start(body: &[u8], grouping_type: u32, frame: SampleNumber) -> DecodeStart
     ensures { λ r. ⌜ GivesStart (now (body .entry)) «grouping_type» (frame .0) (toldStart r) ⌝ }
 {
-    DecodeStart::Nothing
+    let found = match find_sources(body, grouping_type) {
+        FoundSources::Sources(f) => f,
+        FoundSources::Refused(n) => return DecodeStart::Refused(n),
+    };
+    let kind = found.kind;
+    let table = found.table_place;
+    let table_end = table + found.table_size;
+    let sgpd = found.sgpd_place;
+    let sgpd_end = sgpd + found.sgpd_size;
+    start_in(
+        kind,
+        &body[table..table_end],
+        &body[sgpd..sgpd_end],
+        grouping_type,
+        frame,
+    )
 }
 
 // By the roll group: a member with distance d of 0 or more begins at its sample and is clean d samples later; one with a negative distance

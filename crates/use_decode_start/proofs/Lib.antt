@@ -1,0 +1,4 @@
+pub mod Entries
+pub mod Bests
+pub mod Searching
+pub mod From
