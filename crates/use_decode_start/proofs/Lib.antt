@@ -2,3 +2,4 @@ pub mod Entries
 pub mod Bests
 pub mod Searching
 pub mod From
+pub mod Laws
