@@ -205,12 +205,38 @@ static void listing(void) {
     expect("film_file_cue_listing", film_file_cue_listing(movie, sizeof movie, 0, 0x726f6c6c, rows, 6, output, 16, lengths), FILM_NO_CONTAINER);
 }
 
+static void starts(void) {
+    /* the same stbl: samples 0 and 1 have distance -2, sample 2 has none; and with distance 1, and as random access points */
+    uint8_t body[62];
+    uint64_t out[1] = {0x77};
+    memcpy(body, film + 8, 36);
+    memcpy(body + 36, film + 66, 26);
+    expect("film_roll_start", film_roll_start(body, 62, 3, out), FILM_FRAME_NOT_COVERED);
+    expect("film_roll_start", film_roll_start(body, 62, 2, out), FILM_NONE);
+    expect("film_roll_start", film_roll_start(body, 36, 2, out), FILM_NO_SGPD);
+    expect("film_rap_start", film_rap_start(body, 62, 0, out), FILM_NO_TABLE);
+    expect("film_roll_start", out[0], 0x77);
+    body[60] = 0, body[61] = 1;
+    expect("film_roll_start", film_roll_start(body, 62, 0, out), FILM_NONE);
+    expect("film_roll_start", film_roll_start(body, 62, 1, out), FILM_OK);
+    expect("film_roll_start", out[0], 0);
+    expect("film_roll_start", film_roll_start(body, 62, 2, out), FILM_OK);
+    expect("film_roll_start", out[0], 1);
+    memcpy(body + 12, "rap ", 4);
+    memcpy(body + 48, "rap ", 4);
+    expect("film_rap_start", film_rap_start(body, 62, 0, out), FILM_OK);
+    expect("film_rap_start", out[0], 0);
+    expect("film_rap_start", film_rap_start(body, 62, 2, out), FILM_OK);
+    expect("film_rap_start", out[0], 1);
+}
+
 int main(void) {
     atoms();
     tables();
     descriptions();
     entries();
     listing();
+    starts();
     if (failures == 0) {
         puts("film_index.h: every call gave its answer");
     }

@@ -85,6 +85,8 @@ typedef uint64_t film_size;
 #define FILM_NO_SGPD 52u               /* no sgpd of the type */
 #define FILM_SECOND_SGPD 53u
 #define FILM_OUTPUT_TOO_SHORT 54u      /* the listing is longer than the output */
+/* Refusals: where decoding begins */
+#define FILM_FRAME_NOT_COVERED 62u     /* the table covers fewer samples */
 /* Refusals: every function with an input */
 #define FILM_INPUT_TOO_LONG 55u
 /* Refusals: the search for a track's stbl */
@@ -112,7 +114,7 @@ uint32_t film_read_payload_bounded(const uint8_t *s, film_size len, uint64_t at,
  * that the first stbl. Each of them is walked to its end before the one that was found in it is used, so that a fault behind it wins. At the top an atom may pass the
  * given bytes, but the first moov, if it does, is FILM_BODY_CUT. An open-ended atom ends where its parent does, or the given bytes at the top.
  * out: place and length of the body. */
-uint32_t film_find_stbl(const uint8_t *s, size_t len, uint32_t track, uint64_t out[2]);
+uint32_t film_find_stbl(const uint8_t *s, film_size len, uint32_t track, uint64_t out[2]);
 
 /* Sample tables. `s` is the payload of an sbgp or a csgp. `rows` is a run of `rows_len` numbers, two for each record: a sample count and a description index. So
  * rows_len is twice the number of records, and after n rows were written, lookups over them take 2 * n; a last number without a partner is no record. With FILM_OK the
@@ -189,7 +191,21 @@ uint64_t film_rate_of_point(uint32_t bitrate, uint16_t share);
 uint32_t film_cue_listing(const uint8_t *body, film_size len, uint32_t grouping_type, uint32_t *rows, film_size rows_len, uint8_t *listing, film_size listing_len, uint64_t out[2]);
 
 /* The same for a track of a film: the refusals of film_find_stbl, else the cue listing of the body that it finds. */
-uint32_t film_file_cue_listing(const uint8_t *s, size_t len, uint32_t track, uint32_t grouping_type, uint32_t *rows, size_t rows_len, uint8_t *listing, size_t listing_len, uint64_t out[2]);
+uint32_t film_file_cue_listing(const uint8_t *s, film_size len, uint32_t track, uint32_t grouping_type, uint32_t *rows, film_size rows_len, uint8_t *listing, film_size listing_len, uint64_t out[2]);
+
+/* Where decoding begins. */
+
+/* The latest sample at which a decoder can begin so that frame `frame`, counted from 0, is clean: by the group "roll" of `body`, the body of an stbl. A sample of an
+ * entry with distance d of 0 or more begins at itself and is clean d samples later; one with a negative distance begins so many samples before itself, if there are so
+ * many, and is clean at itself. Of all that are clean at or before the frame the latest begin is given; FILM_NONE where there is none. out: the sample where decoding
+ * begins.
+ *
+ * Refusals, in order: those of film_cue_listing up to the sgpd's, but never FILM_NO_RECORD_LEFT; FILM_FRAME_NOT_COVERED; the decoder's, for the entries of the samples up
+ * to the frame, in their order. */
+uint32_t film_roll_start(const uint8_t *body, film_size len, uint32_t frame, uint64_t out[1]);
+
+/* The same by the group "rap ": a sample of an entry begins and is clean at itself. */
+uint32_t film_rap_start(const uint8_t *body, film_size len, uint32_t frame, uint64_t out[1]);
 
 #ifdef __cplusplus
 }

@@ -72,6 +72,7 @@ refusals! {
     InputTooLong = 55,
     NoTrack = 60,
     NoContainer = 61,
+    FrameNotCovered = 62,
 }
 
 impl Refusal {
@@ -133,6 +134,8 @@ pub mod raw {
             listing_len: usize,
             out: *mut [u64; 2],
         ) -> u32;
+        pub fn film_roll_start(body: *const u8, len: usize, frame: u32, out: *mut [u64; 1]) -> u32;
+        pub fn film_rap_start(body: *const u8, len: usize, frame: u32, out: *mut [u64; 1]) -> u32;
     }
 
     pub const OK: u32 = 0;
@@ -454,4 +457,16 @@ pub fn file_cue_listing(s: &[u8], track: u32, grouping_type: [u8; 4], rows: &mut
     let (run, numbers, output, room) = (rows.as_mut_ptr().cast(), 2 * rows.len(), listing.as_mut_ptr(), listing.len());
     let [length, count] = value(|out| unsafe { raw::film_file_cue_listing(s.as_ptr(), s.len(), track, kind, run, numbers, output, room, out) })?;
     Ok(CueListing { length: length as usize, entry_count: count as usize })
+}
+
+/// The sample where decoding begins so that a frame of an stbl's body is clean, by the group "roll" (film_index.h tells how); none where there is no such sample.
+pub fn roll_start(body: &[u8], frame: u32) -> Result<Option<u32>> {
+    let told = call(|out| unsafe { raw::film_roll_start(body.as_ptr(), body.len(), frame, out) })?;
+    Ok(told.map(|[sample]| sample as u32))
+}
+
+/// The same by the group "rap ".
+pub fn rap_start(body: &[u8], frame: u32) -> Result<Option<u32>> {
+    let told = call(|out| unsafe { raw::film_rap_start(body.as_ptr(), body.len(), frame, out) })?;
+    Ok(told.map(|[sample]| sample as u32))
 }

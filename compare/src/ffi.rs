@@ -388,3 +388,13 @@ pub fn file_cue_listing(s: &Input, len: usize, track: u32, kind: [u8; 4], number
     let call = |rows, bytes, out| unsafe { raw::film_file_cue_listing(s.part(len), len, track, number, rows, numbers, bytes, room, out) };
     with_listing(len, numbers, room, &call, &|rows, output| module::file_cue_listing(s.bytes(len), track, kind, rows, output))
 }
+
+pub fn roll_start(s: &Input, len: usize, frame: u32) -> Answer<u32> {
+    let told = with_out::<1>(|out| unsafe { raw::film_roll_start(s.part(len), len, frame, out) }).map(|[sample]| sample as u32);
+    held(told, len, || maybe(module::roll_start(s.bytes(len), frame)))
+}
+
+pub fn rap_start(s: &Input, len: usize, frame: u32) -> Answer<u32> {
+    let told = with_out::<1>(|out| unsafe { raw::film_rap_start(s.part(len), len, frame, out) }).map(|[sample]| sample as u32);
+    held(told, len, || maybe(module::rap_start(s.bytes(len), frame)))
+}

@@ -48,6 +48,10 @@ pub fn run(tally: &mut Tally) {
         check("alst_piece", too_long(ffi::alst_piece(&long, len, u32::MAX)));
         check("cue_listing", too_long(ffi::cue_listing(&long, len, *b"roll", 4, 0)));
         check("cue_listing", too_long(ffi::cue_listing(&long, len, *b"abcd", 0, 16)));
+        for frame in [0, u32::MAX] {
+            check("roll_start", too_long(ffi::roll_start(&long, len, frame)));
+            check("rap_start", too_long(ffi::rap_start(&long, len, frame)));
+        }
         for kind in [*b"roll", *b"abcd"] {
             check("decode_alike", too_long(ffi::decode_alike(kind, &long, len, &short, 16)));
             check("decode_alike", too_long(ffi::decode_alike(kind, &short, 16, &long, len)));

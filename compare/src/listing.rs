@@ -15,14 +15,14 @@ use std::collections::BTreeMap;
 use std::io::Cursor;
 
 /// The payloads that the walk takes.
-struct Sources {
-    csgp: bool,
-    table: Vec<u8>,
-    sgpd: Vec<u8>,
+pub struct Sources {
+    pub csgp: bool,
+    pub table: Vec<u8>,
+    pub sgpd: Vec<u8>,
 }
 
 /// The Rust's walk over the children, with a visitor that takes those of the named type.
-fn sources(s: &[u8], kind: &[u8; 4]) -> Result<Sources, u32> {
+pub fn sources(s: &[u8], kind: &[u8; 4]) -> Result<Sources, u32> {
     let (mut table, mut sgpd, mut refusal) = (None, None, None);
     let walked = atom::walk_children(&mut Cursor::new(s), Some(s.len() as u64), |r, h| {
         let mut visit = || {
@@ -58,17 +58,17 @@ fn sources(s: &[u8], kind: &[u8; 4]) -> Result<Sources, u32> {
 }
 
 /// A table that was read. `over`: behind its rows stands the sample that would make 28. `endless`: it has more rows than are here.
-struct Rows {
-    table: SampleToGroup,
-    over: bool,
-    endless: bool,
+pub struct Rows {
+    pub table: SampleToGroup,
+    pub over: bool,
+    pub endless: bool,
 }
 
 /// So many rows are taken of a csgp that the Rust cannot expand.
 const CAP: usize = 64;
 
 /// The patterns of a csgp that the Rust cannot expand: sample counts and indices.
-fn patterns(s: &[u8]) -> Result<Vec<(u32, Vec<u32>)>, u32> {
+pub fn patterns(s: &[u8]) -> Result<Vec<(u32, Vec<u32>)>, u32> {
     let width = |from: u32| 4usize << (s[3] >> from & 3);
     let parameter = s[3] >> 6 & 1 == 1;
     if parameter && s.len() < 12 {
@@ -131,7 +131,7 @@ fn replay(patterns: &[(u32, Vec<u32>)]) -> Rows {
     rows
 }
 
-fn read_table(sources: &Sources) -> Result<Rows, u32> {
+pub fn read_table(sources: &Sources) -> Result<Rows, u32> {
     let s = &sources.table;
     let read = match sources.csgp {
         false => rust::parse_sbgp(s),
@@ -381,7 +381,7 @@ fn wild(random: &mut Random, samples: u64) -> Film {
 }
 
 /// Parts that the meanings say nothing of: a payload cut anywhere, or shares of version 0.
-fn cut_or_shared(random: &mut Random, film: &Film) -> Parts {
+pub fn cut_or_shared(random: &mut Random, film: &Film) -> Parts {
     let mut parts = stbl::parts(random, film);
     if random.one_in(2) {
         let cut = if random.one_in(2) { &mut parts.table } else { &mut parts.sgpd };
@@ -399,7 +399,7 @@ fn cut_or_shared(random: &mut Random, film: &Film) -> Parts {
 const LIMITS: [u32; 14] = [0, 1, 2, 3, 7, 8, 15, 16, 255, 65_535, 0x1000_0000, 0x7fff_ffff, 0xffff_fffe, 0xffff_ffff];
 
 /// One or two kinds of damage.
-fn damaged(random: &mut Random, mut s: Vec<u8>) -> Vec<u8> {
+pub fn damaged(random: &mut Random, mut s: Vec<u8>) -> Vec<u8> {
     for _ in 0..1 + random.below(2) {
         if s.len() < 8 {
             break;
@@ -419,7 +419,7 @@ fn damaged(random: &mut Random, mut s: Vec<u8>) -> Vec<u8> {
 }
 
 /// Children left out, doubled, open, short or past the end.
-fn misbuilt(random: &mut Random, film: &Film) -> Vec<u8> {
+pub fn misbuilt(random: &mut Random, film: &Film) -> Vec<u8> {
     let parts = stbl::parts(random, film);
     let table = stbl::atom(random, if parts.csgp { b"csgp" } else { b"sbgp" }, &parts.table);
     let sgpd = stbl::atom(random, b"sgpd", &parts.sgpd);

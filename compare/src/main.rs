@@ -11,6 +11,7 @@ mod listing;
 mod random;
 mod sbgp;
 mod sgpd;
+mod starts;
 mod stbl;
 mod tables;
 mod tally;
@@ -48,7 +49,7 @@ pub fn main() {
         }
         return;
     }
-    let parts: [fn(&mut tally::Tally); 12] = [
+    let parts: [fn(&mut tally::Tally); 13] = [
         csgp::run,
         csgp::run_long,
         atoms::run,
@@ -61,6 +62,7 @@ pub fn main() {
         listing::run,
         listing::run_pairs,
         film::run,
+        starts::run,
     ];
     let tallies = std::thread::scope(|threads| {
         let running = parts.map(|part| {
