@@ -19,7 +19,7 @@ pub enum RowsNeeded {
 }
 
 // More records than any table has rows.
-const UNLIMITED: usize = 18446744073709551615;
+pub const UNLIMITED: usize = 18446744073709551615;
 
 // The rows of a table that was read; 28 where a row's count would pass its limit.
 fn needed(s: &[u8], table: SampleTable) -> RowsNeeded

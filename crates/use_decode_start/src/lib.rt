@@ -17,6 +17,7 @@ use listing_walk::find_sources;
 use search::search_table;
 use table_csgp::measure::Measured;
 use table_front::TableKind;
+use table_needed::UNLIMITED;
 use table_records::count_rows;
 use table_runs::ReadTable;
 use table_runs::count_samples;
@@ -54,9 +55,6 @@ enum SearchedFor {
     Latest(Latest),
     Refused(u32),
 }
-
-// More records than any table has rows.
-const UNLIMITED: usize = 18446744073709551615;
 
 // What follows the walk: the payloads of the table and of the sgpd.
 fn start_in(
