@@ -1,0 +1,70 @@
+-- What the four calls answer, by the tests that led there.
+use mathlib.Core.Path.{_≡_, refl, ap, sym, _∙_}
+use Prim.Native.Nat.{ℕ, _<_, _≤_}
+use native.Mathlib.Omega.{arith}
+use borrow.Author.Tests.{lt-ltb, le-ltb, eq-eqb, ne-eqb}
+use mathlib.Core.List.{List}
+use lib.ListN.{length}
+use Rattle.base_fields.specs.Answer.{Answer, given, refused, andThen, inFront}
+use Rattle.base_ids.specs.Limits.{countLimit, recordLimit}
+use Rattle.table_rows.specs.Row.{Row, rowsOf, recordsIn, withinRecords}
+use Rattle.table_writing.specs.Joined.{joined, remaining, largestCount}
+use Rattle.table_writing.specs.Bodies.{sbgpBytes, sbgpLength, csgpBytes, csgpLength}
+use Rattle.table_writing.specs.Write.{quoteCsgp, offered, writeSbgp, writeCsgp}
+use Rattle.table_writing.proofs.Write.{offered-made}
+use Rattle.table_writers.specs.Tally.{Tallies, lengthBy}
+use Rattle.table_writers.specs.Told.{GivesWritten}
+use Rattle.table_writers.specs.declared.tally.Tally.{Tally}
+use Rattle.table_writers.specs.declared.WrittenTable.the-variants as written
+
+-- what a writer gives
+module _ {told : Answer (List ℕ)} (out : List ℕ) where
+  pub gives-refused : {n : ℕ} → told ≡ refused n → GivesWritten told out out (written.Refused n)
+  gives-refused e = record { answer = rw e refl; output = rw e refl }
+
+  pub gives-bytes : {bytes after : List ℕ} {n : ℕ} → told ≡ given bytes → n ≡ length bytes → after ≡ inFront bytes out → GivesWritten told out after (written.Bytes n)
+  gives-bytes e size put = record { answer = rw (e, size) refl; output = rw e put }
+
+-- 55
+pub over : {A : Type 0} {n : ℕ} (rest : Answer A) → recordLimit < n → withinRecords n rest ≡ refused 55
+over rest h = simp (lt-ltb _ _ h)
+
+pub few : {A : Type 0} {n : ℕ} (rest : Answer A) → n ≤ recordLimit → withinRecords n rest ≡ rest
+few rest h = simp (le-ltb _ _ h)
+
+-- 63, then 64
+module _ (needed quoted room : ℕ) (bytes : List ℕ) where
+  pub disagrees : (quoted ≡ needed → ⊥) → offered needed quoted room bytes ≡ refused 63
+  disagrees d = simp (ne-eqb quoted needed d)
+
+  pub shorter : quoted ≡ needed → room < quoted → offered needed quoted room bytes ≡ refused 64
+  shorter e h = simp (eq-eqb quoted needed e, lt-ltb room quoted h)
+
+-- 28, else the rows that remain
+module _ (l : List ℕ) where
+  pub remains-over : countLimit < largestCount (joined (rowsOf l)) → remaining (rowsOf l) ≡ refused 28
+  unfolding remaining
+  remains-over h = simp (lt-ltb _ _ h)
+
+  module _ (t : Tally) (o : Tallies (joined (rowsOf l)) t) where
+    pub remains : remaining (rowsOf l) ≡ given (joined (rowsOf l))
+    unfolding remaining
+    remains =
+        let small : largestCount (joined (rowsOf l)) ≤ countLimit = omega (arith, o .count, o .small) in
+        simp (le-ltb countLimit (largestCount (joined (rowsOf l))) small)
+
+    pub tally-length : lengthBy t ≡ csgpLength (joined (rowsOf l))
+    tally-length = rw (o .rows, o .count, o .index) refl
+
+    pub quoted-csgp : recordsIn l ≤ recordLimit → quoteCsgp l ≡ given (lengthBy t)
+    quoted-csgp h = few _ h ∙ rw (remains) (ap given (sym tally-length))
+
+    pub offered-csgp : (type quoted room : ℕ) → recordsIn l ≤ recordLimit →
+        writeCsgp type l quoted room ≡ offered (lengthBy t) quoted room (csgpBytes type (joined (rowsOf l)))
+    offered-csgp type quoted room h = few _ h ∙ rw (remains, tally-length) refl
+
+  pub quoted-over : countLimit < largestCount (joined (rowsOf l)) → recordsIn l ≤ recordLimit → quoteCsgp l ≡ refused 28
+  quoted-over o h = few _ h ∙ rw (remains-over o) refl
+
+  pub written-over : (type quoted room : ℕ) → countLimit < largestCount (joined (rowsOf l)) → recordsIn l ≤ recordLimit → writeCsgp type l quoted room ≡ refused 28
+  written-over type quoted room o h = few _ h ∙ rw (remains-over o) refl

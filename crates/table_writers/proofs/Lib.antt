@@ -1,0 +1,7 @@
+pub mod Walk
+pub mod Bytes
+pub mod Tallying
+pub mod Halves
+pub mod Answering
+pub mod Body
+pub mod Numbered

@@ -1,0 +1,5 @@
+pub mod Told
+pub mod Runs
+pub mod Tally
+pub mod Words
+pub mod Halves

@@ -1,0 +1,105 @@
+// What a csgp's length and codes rest on: how many rows remain, their largest count and their largest index.
+ghost use mathlib.Core.Path.{_≡_};
+ghost use Prim.Native.Nat.{_*_, _≤_, max};
+ghost use Rattle.base_ids.specs.Limits.{recordLimit};
+ghost use Rattle.table_csgp_head.specs.Csgp.{widthOf};
+ghost use Rattle.table_rows.specs.Row.{rowsOf, recordsIn};
+ghost use Rattle.table_writing.specs.Joined.{joined};
+ghost use Rattle.table_writing.specs.Bodies.{codeFor};
+ghost use Rattle.table_writers.specs.Tally.{GivesTally, lengthBy, counted};
+use super::runs::NextRun;
+use super::runs::next_run;
+use base_ids::RowNumber;
+
+pub struct Tally {
+    pub rows: usize,
+    pub count: u32,
+    pub index: u32,
+}
+
+pub enum Tallied {
+    Rows(Tally),
+    // a count passes the limit
+    Over,
+}
+
+fn larger(a: u32, b: u32) -> u32
+    ensures { λ r. ⌜ r ≡ max a b ⌝ }
+{
+    if a < b { b } else { a }
+}
+
+// One row more.
+fn count_row(t: Tally, count: u32, index: u32) -> Tally
+    requires { ⌜ t .rows ≤ recordLimit ⌝ }
+    ensures { λ r. ⌜ r ≡ counted t count index ⌝ }
+{
+    Tally {
+        rows: t.rows + 1,
+        count: larger(t.count, count),
+        index: larger(t.index, index),
+    }
+}
+
+pub fn tally_rows(rows: &[RowNumber]) -> Tallied
+    requires { ⌜ recordsIn (now rows) ≤ recordLimit ⌝ }
+    ensures { λ r. ⌜ GivesTally (joined (rowsOf (now (rows .entry)))) r ⌝ }
+{
+    let mut t = Tally {
+        rows: 0,
+        count: 0,
+        index: 0,
+    };
+    let mut i: usize = 0;
+    loop {
+        match next_run(rows, i) {
+            NextRun::Run(r) => {
+                t = count_row(t, r.count, r.index);
+                i = r.next;
+            }
+            NextRun::Over => return Tallied::Over,
+            NextRun::End => return Tallied::Rows(t),
+        }
+    }
+}
+
+// The narrowest code whose width holds a number.
+pub fn code_for(n: u32) -> u32
+    ensures { λ r. ⌜ r ≡ codeFor n ⌝ }
+{
+    if n < 16 {
+        return 0;
+    }
+    if n < 256 {
+        return 1;
+    }
+    if n < 65536 {
+        return 2;
+    }
+    3
+}
+
+// The half bytes of that width.
+pub fn halves_for(n: u32) -> usize
+    ensures { λ r. ⌜ (4 * r ≡ widthOf (codeFor n)) × (r ≤ 8) ⌝ }
+{
+    if n < 16 {
+        return 1;
+    }
+    if n < 256 {
+        return 2;
+    }
+    if n < 65536 {
+        return 4;
+    }
+    8
+}
+
+// The length of the csgp.
+pub fn length_of(t: Tally) -> usize
+    requires { ⌜ t .rows ≤ recordLimit ⌝ }
+    ensures { λ r. ⌜ r ≡ lengthBy t ⌝ }
+{
+    let halves = t.rows * (1 + halves_for(t.count) + halves_for(t.index));
+    12 + (halves + 1) / 2
+}
