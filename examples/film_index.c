@@ -91,6 +91,39 @@ static void tables(void) {
     expect("film_covered_samples", one[0], 3);
 }
 
+static void writing(void) {
+    /* the rows (2,1), (0,9), (1,1), (20,2): the csgp has (3,1), (20,2), counts of 8 bits and indices of 4 */
+    const uint32_t rows[8] = {2, 1, 0, 9, 1, 1, 20, 2};
+    const uint8_t csgp[] = {0, 0, 0, 4, 'r', 'o', 'l', 'l', 0, 0, 0, 2, 0x10, 0x31, 0x14, 0x12};
+    const uint32_t over[4] = {4294967295u, 1, 1, 1};
+    uint8_t body[48];
+    uint32_t back[8];
+    uint64_t one[1], head[3];
+    memset(body, 0x77, sizeof body);
+    expect("film_quote_sbgp", film_quote_sbgp(rows, 8, one), FILM_OK);
+    expect("film_quote_sbgp", one[0], 44);
+    expect("film_write_sbgp", film_write_sbgp(0x726f6c6c, rows, 8, 43, body, 48, one), FILM_LENGTH_DISAGREES);
+    expect("film_write_sbgp", film_write_sbgp(0x726f6c6c, rows, 8, 44, body, 43, one), FILM_OUTPUT_SHORTER);
+    expect("film_write_sbgp", body[0], 0x77);
+    expect("film_write_sbgp", film_write_sbgp(0x726f6c6c, rows, 8, 44, body, 48, one), FILM_OK);
+    expect("film_write_sbgp", one[0], 44);
+    expect("film_write_sbgp", body[44], 0x77);
+    expect("film_write_sbgp", film_parse_sbgp(body, 44, back, 8, head), FILM_OK);
+    expect("film_write_sbgp", memcmp(back, rows, sizeof rows) == 0, 1);
+
+    memset(body, 0x77, sizeof body);
+    expect("film_quote_csgp", film_quote_csgp(over, 4, one), FILM_ROW_COUNT_OVER);
+    expect("film_quote_csgp", film_quote_csgp(rows, 8, one), FILM_OK);
+    expect("film_quote_csgp", one[0], sizeof csgp);
+    expect("film_write_csgp", film_write_csgp(0x726f6c6c, over, 4, 16, body, 48, one), FILM_ROW_COUNT_OVER);
+    expect("film_write_csgp", film_write_csgp(0x726f6c6c, rows, 8, 17, body, 48, one), FILM_LENGTH_DISAGREES);
+    expect("film_write_csgp", film_write_csgp(0x726f6c6c, rows, 8, 16, body, 15, one), FILM_OUTPUT_SHORTER);
+    expect("film_write_csgp", body[0], 0x77);
+    expect("film_write_csgp", film_write_csgp(0x726f6c6c, rows, 8, 16, body, 48, one), FILM_OK);
+    expect("film_write_csgp", memcmp(body, csgp, sizeof csgp) == 0, 1);
+    expect("film_write_csgp", body[16], 0x77);
+}
+
 static void descriptions(void) {
     const uint8_t *sgpd = film + 74;
     uint64_t head[5], place[2], split[2], part[3];
@@ -233,6 +266,7 @@ static void starts(void) {
 int main(void) {
     atoms();
     tables();
+    writing();
     descriptions();
     entries();
     listing();

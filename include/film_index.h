@@ -6,7 +6,7 @@
  *   FILM_OK       the value is in `out`, which is then written whole;
  *   FILM_NONE     there is no such thing, or a walk is done;
  *   else          the number of a refusal (FILM_HEADER_CUT and so on): the first that applies.
- * Without FILM_OK nothing is written: `out`, rows, a listing and every other lent byte stay as they were. No refusal is 0 or 255.
+ * Without FILM_OK nothing is written: `out`, rows, a listing, a body and every other lent byte stay as they were. No refusal is 0 or 255.
  * film_rate_of_point cannot fail and returns its value.
  *
  * Lent memory. `out` has the length that the declaration names. What one call is lent must not overlap where any of it is written. A pointer whose
@@ -92,6 +92,9 @@ typedef uint64_t film_size;
 /* Refusals: the search for a track's stbl */
 #define FILM_NO_TRACK 60u              /* no moov, or no such trak in the first one */
 #define FILM_NO_CONTAINER 61u          /* no mdia in the trak, no minf in the mdia, or no stbl in the minf */
+/* Refusals: tables that are written */
+#define FILM_LENGTH_DISAGREES 63u      /* the rows need another length than the quoted one */
+#define FILM_OUTPUT_SHORTER 64u        /* the output is shorter than the quoted length */
 
 /* Atoms. A place is counted in bytes from the first byte of `s`. */
 
@@ -138,6 +141,24 @@ uint32_t film_group_index_for_sample(const uint32_t *rows, film_size rows_len, u
 
 /* The number of samples that the rows cover. out: the sum. */
 uint32_t film_covered_samples(const uint32_t *rows, film_size rows_len, uint64_t out[1]);
+
+/* Tables written. `rows` is a run of numbers as above, which is only read. A body is written in two calls: a quote of its exact length, and a write that takes that length. Version
+ * and flags but the codes of a csgp are 0, and there is no parameter. Up to FILM_INPUT_LIMIT bytes a written sbgp reads back to the same rows, and a written csgp to the same
+ * index at every sample and the same total, with records enough. */
+
+/* The length of the sbgp that holds the rows as given. out: the length in bytes. */
+uint32_t film_quote_sbgp(const uint32_t *rows, film_size rows_len, uint64_t out[1]);
+
+/* The length of the csgp that gives the same samples: rows of count 0 are dropped and like neighbours joined, each row that remains is a pattern of length 1, and the
+ * widths are the narrowest that hold the largest count and the largest index. FILM_ROW_COUNT_OVER where a joined count is too large. out: the length in bytes. */
+uint32_t film_quote_csgp(const uint32_t *rows, film_size rows_len, uint64_t out[1]);
+
+/* Writes that sbgp in front of the `body_len` bytes of `body`; what stands behind it stays. `quoted` is the quoted length: FILM_LENGTH_DISAGREES where the rows need another one,
+ * then FILM_OUTPUT_SHORTER where the output is shorter. out: the length. */
+uint32_t film_write_sbgp(uint32_t grouping_type, const uint32_t *rows, film_size rows_len, film_size quoted, uint8_t *body, film_size body_len, uint64_t out[1]);
+
+/* The same for the csgp; FILM_ROW_COUNT_OVER comes first. */
+uint32_t film_write_csgp(uint32_t grouping_type, const uint32_t *rows, film_size rows_len, film_size quoted, uint8_t *body, film_size body_len, uint64_t out[1]);
 
 /* Group descriptions. `s` is the payload of an sgpd. */
 

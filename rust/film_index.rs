@@ -73,6 +73,8 @@ refusals! {
     NoTrack = 60,
     NoContainer = 61,
     FrameNotCovered = 62,
+    LengthDisagrees = 63,
+    OutputShorter = 64,
 }
 
 impl Refusal {
@@ -97,6 +99,10 @@ pub mod raw {
         pub fn film_csgp_rows_needed(s: *const u8, len: usize, out: *mut [u64; 1]) -> u32;
         pub fn film_group_index_for_sample(rows: *const u32, rows_len: usize, sample: u32, out: *mut [u64; 1]) -> u32;
         pub fn film_covered_samples(rows: *const u32, rows_len: usize, out: *mut [u64; 1]) -> u32;
+        pub fn film_quote_sbgp(rows: *const u32, rows_len: usize, out: *mut [u64; 1]) -> u32;
+        pub fn film_quote_csgp(rows: *const u32, rows_len: usize, out: *mut [u64; 1]) -> u32;
+        pub fn film_write_sbgp(kind: u32, rows: *const u32, rows_len: usize, quoted: usize, body: *mut u8, body_len: usize, out: *mut [u64; 1]) -> u32;
+        pub fn film_write_csgp(kind: u32, rows: *const u32, rows_len: usize, quoted: usize, body: *mut u8, body_len: usize, out: *mut [u64; 1]) -> u32;
         pub fn film_parse_sgpd(s: *const u8, len: usize, out: *mut [u64; 5]) -> u32;
         pub fn film_entry_place(s: *const u8, len: usize, index: u32, out: *mut [u64; 2]) -> u32;
         pub fn film_decode_roll(s: *const u8, len: usize, out: *mut [i64; 1]) -> u32;
@@ -250,6 +256,36 @@ pub fn sbgp_rows_needed(payload: &[u8]) -> Result<u64> {
 pub fn csgp_rows_needed(payload: &[u8]) -> Result<u64> {
     let [count] = value(|out| unsafe { raw::film_csgp_rows_needed(payload.as_ptr(), payload.len(), out) })?;
     Ok(count)
+}
+
+/// The exact length of the sbgp that holds the rows.
+pub fn quote_sbgp(rows: &[SampleToGroupEntry]) -> Result<usize> {
+    let [length] = value(|out| unsafe { raw::film_quote_sbgp(rows.as_ptr().cast(), 2 * rows.len(), out) })?;
+    Ok(length as usize)
+}
+
+/// The exact length of the csgp that gives the same samples.
+pub fn quote_csgp(rows: &[SampleToGroupEntry]) -> Result<usize> {
+    let [length] = value(|out| unsafe { raw::film_quote_csgp(rows.as_ptr().cast(), 2 * rows.len(), out) })?;
+    Ok(length as usize)
+}
+
+type TableWriter = unsafe extern "C" fn(u32, *const u32, usize, usize, *mut u8, usize, *mut [u64; 1]) -> u32;
+
+fn write(writer: TableWriter, grouping_type: [u8; 4], rows: &[SampleToGroupEntry], quoted: usize, body: &mut [u8]) -> Result<usize> {
+    let (kind, run, numbers) = (u32::from_be_bytes(grouping_type), rows.as_ptr().cast(), 2 * rows.len());
+    let [length] = value(|out| unsafe { writer(kind, run, numbers, quoted, body.as_mut_ptr(), body.len(), out) })?;
+    Ok(length as usize)
+}
+
+/// Writes the sbgp in front of `body`, where the rows still need the quoted length; how many bytes are told.
+pub fn write_sbgp(grouping_type: [u8; 4], rows: &[SampleToGroupEntry], quoted: usize, body: &mut [u8]) -> Result<usize> {
+    write(raw::film_write_sbgp, grouping_type, rows, quoted, body)
+}
+
+/// The same for the csgp.
+pub fn write_csgp(grouping_type: [u8; 4], rows: &[SampleToGroupEntry], quoted: usize, body: &mut [u8]) -> Result<usize> {
+    write(raw::film_write_csgp, grouping_type, rows, quoted, body)
 }
 
 /// The description index of a sample (both as in the Rust: samples from 0, descriptions from 1); 0 past the last row.

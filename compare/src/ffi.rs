@@ -398,3 +398,43 @@ pub fn rap_start(s: &Input, len: usize, frame: u32) -> Answer<u32> {
     let told = with_out::<1>(|out| unsafe { raw::film_rap_start(s.part(len), len, frame, out) }).map(|[sample]| sample as u32);
     held(told, len, || maybe(module::rap_start(s.bytes(len), frame)))
 }
+
+pub fn quote_sbgp(rows: &[u32]) -> Answer<u64> {
+    let told = with_out::<1>(|out| unsafe { raw::film_quote_sbgp(rows.as_ptr(), rows.len(), out) }).map(|[length]| length);
+    held(told, rows.len(), || Answer::from(module::quote_sbgp(as_rows(rows))).map(|length| length as u64))
+}
+
+pub fn quote_csgp(rows: &[u32]) -> Answer<u64> {
+    let told = with_out::<1>(|out| unsafe { raw::film_quote_csgp(rows.as_ptr(), rows.len(), out) }).map(|[length]| length);
+    held(told, rows.len(), || Answer::from(module::quote_csgp(as_rows(rows))).map(|length| length as u64))
+}
+
+type RawWriter = unsafe extern "C" fn(u32, *const u32, usize, usize, *mut u8, usize, *mut [u64; 1]) -> u32;
+type ModuleWriter = fn([u8; 4], &[SampleToGroupEntry], usize, &mut [u8]) -> module::Result<usize>;
+
+/// Calls a table's writer with an output of `room` bytes between guards. Only the bytes in front of it are written.
+fn with_body(kind: [u8; 4], rows: &[u32], quoted: usize, room: usize, call: RawWriter, module: ModuleWriter) -> Answer<Vec<u8>> {
+    let mut output = vec![BYTE_GUARD; room + 2 * GUARDS];
+    let body = output[GUARDS..].as_mut_ptr();
+    let number = u32::from_be_bytes(kind);
+    let told = with_out::<1>(|out| unsafe { call(number, rows.as_ptr(), rows.len(), quoted, body, room, out) });
+    let length = if let Answer::Given([length]) = told { length as usize } else { 0 };
+    assert!(length <= room, "more bytes than were lent");
+    assert!(output[..GUARDS].iter().chain(&output[GUARDS + length..]).all(|&g| g == BYTE_GUARD), "a byte behind the body was written");
+    let told = told.map(|_| output[GUARDS..GUARDS + length].to_vec());
+    held(told, rows.len(), || {
+        let mut output = vec![OTHER_GUARD; room];
+        let told = module(kind, as_rows(rows), quoted, &mut output);
+        let length = told.as_ref().map_or(0, |&length| length);
+        assert!(output[length..].iter().all(|&g| g == OTHER_GUARD), "a byte behind the body was written");
+        Answer::from(told).map(|_| output[..length].to_vec())
+    })
+}
+
+pub fn write_sbgp(kind: [u8; 4], rows: &[u32], quoted: usize, room: usize) -> Answer<Vec<u8>> {
+    with_body(kind, rows, quoted, room, raw::film_write_sbgp, module::write_sbgp)
+}
+
+pub fn write_csgp(kind: [u8; 4], rows: &[u32], quoted: usize, room: usize) -> Answer<Vec<u8>> {
+    with_body(kind, rows, quoted, room, raw::film_write_csgp, module::write_csgp)
+}

@@ -63,6 +63,12 @@ pub fn run(tally: &mut Tally) {
         let mut check = |entry, refused| tally.same(entry, refused, numbers / 2 > RECORDS, &|| format!("55 for {numbers} numbers"));
         check("group_index_for_sample", too_long(ffi::group_index_for_sample(&rows[..numbers], 0)));
         check("covered_samples", too_long(ffi::covered_samples(&rows[..numbers])));
+        check("quote_sbgp", too_long(ffi::quote_sbgp(&rows[..numbers])));
+        check("quote_csgp", too_long(ffi::quote_csgp(&rows[..numbers])));
+        for (quoted, room) in [(0, 0), (12, 12)] {
+            check("write_sbgp", too_long(ffi::write_sbgp(*b"roll", &rows[..numbers], quoted, room)));
+            check("write_csgp", too_long(ffi::write_csgp(*b"roll", &rows[..numbers], quoted, room)));
+        }
     }
     assert!(rows.iter().all(|&n| n == 0), "rows were written");
     // A run or an output that is lent to be filled has no limit of its own.

@@ -16,6 +16,7 @@ mod stbl;
 mod tables;
 mod tally;
 mod vectors;
+mod writing;
 
 /// The longest input of document 01's domain.
 const MIB: usize = 1 << 20;
@@ -49,7 +50,7 @@ pub fn main() {
         }
         return;
     }
-    let parts: [fn(&mut tally::Tally); 13] = [
+    let parts: [fn(&mut tally::Tally); 14] = [
         csgp::run,
         csgp::run_long,
         atoms::run,
@@ -63,6 +64,7 @@ pub fn main() {
         listing::run_pairs,
         film::run,
         starts::run,
+        writing::run,
     ];
     let tallies = std::thread::scope(|threads| {
         let running = parts.map(|part| {
