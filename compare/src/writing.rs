@@ -172,15 +172,15 @@ pub fn run(tally: &mut Tally) {
     const SMALL: [u32; 11] = [0, 0, 1, 1, 2, 7, 14, 15, 16, 255, 256];
     for k in 0..110_000 {
         let many = if k % 100 == 0 { 60 } else { 8 };
-        let rows: Vec<Row> = (0..random.below(many)).map(|_| (random.pick(&SMALL), random.below(4) as u32)).collect();
         let wide = random.one_in(2);
-        let rows: Vec<Row> = rows.into_iter().map(|(count, index)| if wide && random.one_in(3) { (count, random.pick(&INDICES)) } else { (count, index) }).collect();
-        let mut rows = rows;
+        let mut rows: Vec<Row> = (0..random.below(many)).map(|_| (random.pick(&SMALL), random.below(4) as u32)).collect();
+        rows.iter_mut().for_each(|row| if wide && random.one_in(3) { row.1 = random.pick(&INDICES) });
         if random.one_in(200) && !rows.is_empty() {
             let at = random.below(rows.len() as u64) as usize;
             rows[at].0 = random.pick(&COUNTS);
         }
-        both(tally, &mut random, (random.next() as u32).to_be_bytes(), &rows);
+        let other = (random.next() as u32).to_be_bytes();
+        both(tally, &mut random, other, &rows);
     }
     // Joined counts that pass the limit, at any place, with rows of count 0 between: 28. The sbgp takes them.
     for _ in 0..20_000 {
