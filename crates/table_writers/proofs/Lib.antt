@@ -5,3 +5,4 @@ pub mod Halves
 pub mod Answering
 pub mod Body
 pub mod Numbered
+pub mod ReadsBack
