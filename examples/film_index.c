@@ -263,8 +263,26 @@ static void starts(void) {
     expect("film_rap_start", out[0], 1);
 }
 
+static void sync(void) {
+    static const uint8_t stss[] = {0, 0, 0, 0, 0, 0, 0, 2, 0, 0, 0, 1, 0, 0, 0, 5};
+    static const uint8_t sdtp[] = {0, 0, 0, 0, 0x1b, 0xe4};
+    uint64_t one[1], fields[4];
+    expect("film_is_sync_sample", film_is_sync_sample(stss, sizeof stss, 4, one), FILM_OK);
+    expect("film_is_sync_sample", one[0], 1);
+    expect("film_is_sync_sample", film_is_sync_sample(stss, sizeof stss, UINT32_MAX, one), FILM_OK);
+    expect("film_is_sync_sample", one[0], 0);
+    expect("film_is_sync_sample", film_is_sync_sample(stss, 15, 4, one), FILM_SYNC_TABLE_CUT);
+    expect("film_last_sync_sample", film_last_sync_sample(stss, sizeof stss, 3, one), FILM_OK);
+    expect("film_last_sync_sample", one[0], 0);
+    expect("film_last_sync_sample", film_last_sync_sample(stss, 8, 3, one), FILM_SYNC_TABLE_CUT);
+    expect("film_sample_dependency", film_sample_dependency(sdtp, sizeof sdtp, 1, fields), FILM_OK);
+    expect("film_sample_dependency", fields[0] == 3 && fields[1] == 2 && fields[2] == 1 && fields[3] == 0, 1);
+    expect("film_sample_dependency", film_sample_dependency(sdtp, sizeof sdtp, 2, fields), FILM_NONE);
+}
+
 int main(void) {
     atoms();
+    sync();
     tables();
     writing();
     descriptions();

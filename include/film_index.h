@@ -95,6 +95,9 @@ typedef uint64_t film_size;
 /* Refusals: tables that are written */
 #define FILM_LENGTH_DISAGREES 63u      /* the rows need another length than the quoted one */
 #define FILM_OUTPUT_SHORTER 64u        /* the output is shorter than the quoted length */
+/* Refusals: sync and dependency tables */
+#define FILM_SYNC_TABLE_CUT 65u        /* bytes of an stss or an sdtp are missing */
+#define FILM_SYNC_NOT_RISING 66u       /* the sample numbers of an stss do not rise, or one is 0 */
 
 /* Atoms. A place is counted in bytes from the first byte of `s`. */
 
@@ -197,6 +200,17 @@ uint32_t film_described_place(const uint8_t *film, film_size film_len, const uin
 uint64_t film_rate_of_point(uint32_t bitrate, uint16_t share);
 
 /* Cue listing. */
+
+/* Sync and dependency tables. `s` is the body of an stss or of an sdtp. A sample is counted from 0. Each call checks all numbers of an stss. */
+
+/* out: 1 where the sample is a sync sample of the stss, else 0. */
+uint32_t film_is_sync_sample(const uint8_t *s, film_size len, uint32_t sample, uint64_t out[1]);
+
+/* The last sync sample at or before `frame`; FILM_NONE where there is none. out: the sample. */
+uint32_t film_last_sync_sample(const uint8_t *s, film_size len, uint32_t frame, uint64_t out[1]);
+
+/* What the sdtp says of a sample; FILM_NONE past its last byte. out: is leading, depends on, is depended on, has redundancy, 0 to 3 each. */
+uint32_t film_sample_dependency(const uint8_t *s, film_size len, uint32_t sample, uint64_t out[4]);
 
 /* The cue listing of one grouping type in `body`, the body of an stbl: the four type bytes, the number of samples that the type's table covers, and for each longest
  * stretch of samples of one meaning its length, its kind (0: no group, 1: an index past the entries, 2: an entry) and, for kind 2, the entry's decoded fields, or, for a

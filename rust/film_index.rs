@@ -75,6 +75,8 @@ refusals! {
     FrameNotCovered = 62,
     LengthDisagrees = 63,
     OutputShorter = 64,
+    SyncTableCut = 65,
+    SyncNotRising = 66,
 }
 
 impl Refusal {
@@ -119,6 +121,9 @@ pub mod raw {
         pub fn film_split_csgp_index(raw: u32, out: *mut [u64; 2]) -> u32;
         pub fn film_described_place(film: *const u8, film_len: usize, fragment: *const u8, fragment_len: usize, raw: u32, out: *mut [u64; 3]) -> u32;
         pub fn film_rate_of_point(bitrate: u32, share: u16) -> u64;
+        pub fn film_is_sync_sample(s: *const u8, len: usize, sample: u32, out: *mut [u64; 1]) -> u32;
+        pub fn film_last_sync_sample(s: *const u8, len: usize, frame: u32, out: *mut [u64; 1]) -> u32;
+        pub fn film_sample_dependency(s: *const u8, len: usize, sample: u32, out: *mut [u64; 4]) -> u32;
         pub fn film_cue_listing(
             body: *const u8,
             len: usize,
@@ -505,4 +510,35 @@ pub fn roll_start(body: &[u8], frame: u32) -> Result<Option<u32>> {
 pub fn rap_start(body: &[u8], frame: u32) -> Result<Option<u32>> {
     let told = call(|out| unsafe { raw::film_rap_start(body.as_ptr(), body.len(), frame, out) })?;
     Ok(told.map(|[sample]| sample as u32))
+}
+
+/// Whether a sample, counted from 0, is a sync sample of the body of an stss.
+pub fn is_sync_sample(s: &[u8], sample: u32) -> Result<bool> {
+    let [told] = value(|out| unsafe { raw::film_is_sync_sample(s.as_ptr(), s.len(), sample, out) })?;
+    Ok(told == 1)
+}
+
+/// The last sync sample, counted from 0, at or before a frame.
+pub fn last_sync_sample(s: &[u8], frame: u32) -> Result<Option<u32>> {
+    Ok(call(|out| unsafe { raw::film_last_sync_sample(s.as_ptr(), s.len(), frame, out) })?.map(|[sample]| sample as u32))
+}
+
+/// The fields of a sample in an sdtp, two bits each.
+#[derive(Clone, Copy, Debug, PartialEq, Eq)]
+pub struct SampleDependency {
+    pub is_leading: u8,
+    pub sample_depends_on: u8,
+    pub sample_is_depended_on: u8,
+    pub sample_has_redundancy: u8,
+}
+
+/// What the body of an sdtp says of a sample, counted from 0; None past its last byte.
+pub fn sample_dependency(s: &[u8], sample: u32) -> Result<Option<SampleDependency>> {
+    let told = call(|out| unsafe { raw::film_sample_dependency(s.as_ptr(), s.len(), sample, out) })?;
+    Ok(told.map(|[a, b, c, d]| SampleDependency {
+        is_leading: a as u8,
+        sample_depends_on: b as u8,
+        sample_is_depended_on: c as u8,
+        sample_has_redundancy: d as u8,
+    }))
 }

@@ -334,6 +334,27 @@ pub fn described_place(film: &Input, film_len: usize, fragment: &Input, fragment
     })
 }
 
+pub fn is_sync_sample(s: &Input, len: usize, sample: u32) -> Answer<bool> {
+    let told = with_out(|out| unsafe { raw::film_is_sync_sample(s.part(len), len, sample, out) }).map(|[n]: [u64; 1]| {
+        assert!(n < 2, "neither yes nor no");
+        n == 1
+    });
+    held(told, len, || Answer::from(module::is_sync_sample(s.bytes(len), sample)))
+}
+
+pub fn last_sync_sample(s: &Input, len: usize, frame: u32) -> Answer<u32> {
+    let told = with_out(|out| unsafe { raw::film_last_sync_sample(s.part(len), len, frame, out) }).map(|[n]: [u64; 1]| n as u32);
+    held(told, len, || maybe(module::last_sync_sample(s.bytes(len), frame)))
+}
+
+pub fn sample_dependency(s: &Input, len: usize, sample: u32) -> Answer<[u64; 4]> {
+    let told = with_out(|out| unsafe { raw::film_sample_dependency(s.part(len), len, sample, out) });
+    held(told, len, || {
+        maybe(module::sample_dependency(s.bytes(len), sample))
+            .map(|d| [d.is_leading, d.sample_depends_on, d.sample_is_depended_on, d.sample_has_redundancy].map(u64::from))
+    })
+}
+
 pub fn rate_of_point(bitrate: u32, share: u16) -> u64 {
     let rate = unsafe { raw::film_rate_of_point(bitrate, share) };
     assert!(module::rate_of_point(bitrate, share) == rate, "the module for Rust gives another rate");

@@ -46,6 +46,9 @@ pub fn run(tally: &mut Tally) {
         check("decode_alst", too_long(ffi::decode_alst(&long, len)));
         check("alst_sample_offset", too_long(ffi::alst_sample_offset(&long, len, u32::MAX)));
         check("alst_piece", too_long(ffi::alst_piece(&long, len, u32::MAX)));
+        check("is_sync_sample", too_long(ffi::is_sync_sample(&long, len, 0)));
+        check("last_sync_sample", too_long(ffi::last_sync_sample(&long, len, u32::MAX)));
+        check("sample_dependency", too_long(ffi::sample_dependency(&long, len, u32::MAX)));
         check("cue_listing", too_long(ffi::cue_listing(&long, len, *b"roll", 4, 0)));
         check("cue_listing", too_long(ffi::cue_listing(&long, len, *b"abcd", 0, 16)));
         for frame in [0, u32::MAX] {

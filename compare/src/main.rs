@@ -13,6 +13,7 @@ mod sbgp;
 mod sgpd;
 mod starts;
 mod stbl;
+mod sync;
 mod tables;
 mod tally;
 mod vectors;
@@ -50,7 +51,7 @@ pub fn main() {
         }
         return;
     }
-    let parts: [fn(&mut tally::Tally); 14] = [
+    let parts: [fn(&mut tally::Tally); 15] = [
         csgp::run,
         csgp::run_long,
         atoms::run,
@@ -65,6 +66,7 @@ pub fn main() {
         film::run,
         starts::run,
         writing::run,
+        sync::run,
     ];
     let tallies = std::thread::scope(|threads| {
         let running = parts.map(|part| {
