@@ -85,13 +85,13 @@ typedef uint64_t film_size;
 #define FILM_NO_SGPD 52u               /* no sgpd of the type */
 #define FILM_SECOND_SGPD 53u
 #define FILM_OUTPUT_TOO_SHORT 54u      /* the listing is longer than the output */
-/* Refusals: where decoding begins */
-#define FILM_FRAME_NOT_COVERED 62u     /* the table covers fewer samples */
 /* Refusals: every function with an input */
 #define FILM_INPUT_TOO_LONG 55u
 /* Refusals: the search for a track's stbl */
 #define FILM_NO_TRACK 60u              /* no moov, or no such trak in the first one */
 #define FILM_NO_CONTAINER 61u          /* no mdia in the trak, no minf in the mdia, or no stbl in the minf */
+/* Refusals: where decoding begins */
+#define FILM_FRAME_NOT_COVERED 62u     /* the table covers fewer samples */
 /* Refusals: tables that are written */
 #define FILM_LENGTH_DISAGREES 63u      /* the rows need another length than the quoted one */
 #define FILM_OUTPUT_SHORTER 64u        /* the output is shorter than the quoted length */
