@@ -1,5 +1,4 @@
 // The C interface: tables written as atom bodies, from rows in a lent run of u32 (a count and an index each).
-ghost use mathlib.Core.Path.{_≡_};
 ghost use lib.ListN.{length};
 ghost use Rattle.table_writing.specs.Write.{quoteSbgp, quoteCsgp, writeSbgp, writeCsgp};
 ghost use Rattle.table_writers.specs.Told.{toldLength, toldWritten};

@@ -5,13 +5,12 @@ use native.Mathlib.Omega.{arith}
 use borrow.Author.Tests.{lt-ltb, le-ltb, eq-eqb, ne-eqb}
 use mathlib.Core.List.{List}
 use lib.ListN.{length}
-use Rattle.base_fields.specs.Answer.{Answer, given, refused, andThen, inFront}
+use Rattle.base_fields.specs.Answer.{Answer, given, refused, inFront}
 use Rattle.base_ids.specs.Limits.{countLimit, recordLimit}
-use Rattle.table_rows.specs.Row.{Row, rowsOf, recordsIn, withinRecords}
+use Rattle.table_rows.specs.Row.{rowsOf, recordsIn, withinRecords}
 use Rattle.table_writing.specs.Joined.{joined, remaining, largestCount}
-use Rattle.table_writing.specs.Bodies.{sbgpBytes, sbgpLength, csgpBytes, csgpLength}
-use Rattle.table_writing.specs.Write.{quoteCsgp, offered, writeSbgp, writeCsgp}
-use Rattle.table_writing.proofs.Write.{offered-made}
+use Rattle.table_writing.specs.Bodies.{csgpBytes, csgpLength}
+use Rattle.table_writing.specs.Write.{quoteCsgp, offered, writeCsgp}
 use Rattle.table_writers.specs.Tally.{Tallies, lengthBy}
 use Rattle.table_writers.specs.Told.{GivesWritten}
 use Rattle.table_writers.specs.declared.tally.Tally.{Tally}

@@ -1,9 +1,9 @@
 -- The csgp's head, pairs and indices, put one behind the other, are its bytes in front of the output.
-use mathlib.Core.Path.{_≡_, refl, ap, sym, _∙_}
+use mathlib.Core.Path.{_≡_, refl, ap, _∙_}
 use Prim.Native.Nat.{ℕ, _+_, _*_, _/_, _≤_, _<_}
 use native.Mathlib.Nat.{add-mul, mul-comm, mul-left-comm}
 use native.Mathlib.Omega.{arith}
-use mathlib.Core.List.{List, [], _∷_, _++_, append-nil}
+use mathlib.Core.List.{List, [], _∷_, append-nil}
 use lib.Dec.{ltb}
 use lib.ListN.{length}
 use lib.Seq.{sets, length-sets}
@@ -11,11 +11,10 @@ use Rattle.base_fields.specs.Answer.{inFront}
 use Rattle.base_ids.specs.Limits.{countLimit}
 use Rattle.table_csgp_head.specs.Csgp.{widthOf}
 use Rattle.table_rows.specs.Row.{Row}
-use Rattle.table_writing.specs.Fields.{Field, field, bitLength, bytesFrom, packed}
-use Rattle.table_writing.specs.Bodies.{body, codeFor, countCode, indexCode, flagsOf, pairFields, indexFields, csgpBytes, csgpLength}
+use Rattle.table_writing.specs.Fields.{bitLength, bytesFrom, packed}
+use Rattle.table_writing.specs.Bodies.{body, codeFor, countCode, indexCode, flagsOf, pairFields, csgpBytes, csgpLength}
 use Rattle.table_writing.specs.Joined.{largestCount, largestIndex}
 use Rattle.table_writing.proofs.Choice.{either}
-use Rattle.table_writing.proofs.Parts.{bitLength-both}
 use Rattle.table_writing.proofs.Put.{put-free}
 use Rattle.table_writers.specs.Words.{words}
 use Rattle.table_writers.specs.Halves.{PutsRuns, pairsPut, indicesPut}

@@ -5,11 +5,11 @@ use mathlib.Core.List.{List}
 use lib.ListN.{length, getD, take}
 use Rattle.base_fields.specs.Answer.{Answer, given, inputLimit, overwritten}
 use Rattle.base_fields.proofs.Answers.{given-first}
-use Rattle.table_rows.specs.Row.{Row, Table, rowsOf}
+use Rattle.table_rows.specs.Row.{rowsOf}
 use Rattle.table_sbgp.specs.Sbgp.{parseSbgp}
 use Rattle.table_csgp.specs.Table.{parseCsgp}
 use Rattle.table_writing.specs.Write.{writeSbgp, writeCsgp}
-use Rattle.table_writing.proofs.Write.{Written, sbgp-written, csgp-written, sbgp-reads-back, csgp-reads-back, output-front, ReadsBack}
+use Rattle.table_writing.proofs.Write.{sbgp-written, csgp-written, sbgp-reads-back, csgp-reads-back, output-front, ReadsBack}
 use Rattle.table_writers.specs.Told.{GivesWritten}
 use Rattle.table_writers.specs.declared.WrittenTable.the-variants as written
 

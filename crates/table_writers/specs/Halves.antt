@@ -3,7 +3,7 @@ use Prim.Native.Nat.{ℕ, _+_, _*_, _/_, _%_, _≤_}
 use mathlib.Core.Path.{_≡_}
 use mathlib.Core.List.{List, [], _∷_}
 use lib.ListN.{length, getD}
-use Rattle.base_ids.specs.Limits.{countLimit, recordLimit}
+use Rattle.base_ids.specs.Limits.{countLimit}
 use Rattle.table_rows.specs.Row.{Row}
 use Rattle.table_writing.specs.Joined.{largestCount}
 use Rattle.table_writing.specs.Output.{halfPut, numberPut}

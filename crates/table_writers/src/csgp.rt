@@ -1,13 +1,12 @@
 // The csgp's bytes: behind the twelve bytes all pairs of a pattern length and a count, then all indices, by half bytes.
 ghost use mathlib.Core.Path.{_≡_};
-ghost use Prim.Native.Nat.{_+_, _*_, _/_, _%_, _≤_};
-ghost use lib.ListN.{length, getD};
+ghost use Prim.Native.Nat.{_+_, _*_, _≤_};
+ghost use lib.ListN.{length};
 ghost use Rattle.base_fields.specs.Answer.{inFront};
 ghost use Rattle.base_ids.specs.Limits.{recordLimit};
 ghost use Rattle.table_rows.specs.Row.{rowsOf, recordsIn};
 ghost use Rattle.table_writing.specs.Bodies.{csgpBytes};
 ghost use Rattle.table_writing.specs.Joined.{joined};
-ghost use Rattle.table_writing.specs.Output.{numberPut, halfPut};
 ghost use Rattle.table_writers.specs.Tally.{Tallies, lengthBy};
 ghost use Rattle.table_writers.specs.Halves.{Free, PutsRuns, pairsPut, indicesPut, pairPut};
 use super::runs::NextRun;

@@ -1,3 +1,4 @@
+-- What the quote told, handed out.
 use borrow.Author.Needs.{needs}
 use Rattle.film_writing.proofs.film_quote_csgp.Statement.{statement}
 use Rattle.film_writing.proofs.film_quote_csgp.Tie as tie

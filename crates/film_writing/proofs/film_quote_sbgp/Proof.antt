@@ -1,3 +1,4 @@
+-- What the quote told, handed out.
 use borrow.Author.Needs.{needs}
 use Rattle.film_writing.proofs.film_quote_sbgp.Statement.{statement}
 use Rattle.film_writing.proofs.film_quote_sbgp.Tie as tie

@@ -1,3 +1,4 @@
+-- A length and 0, or the number of the refusal.
 use mathlib.Core.Path.{refl}
 use borrow.Author.Needs.{needs}
 use Rattle.film_writing.proofs.put_length.Statement.{statement}

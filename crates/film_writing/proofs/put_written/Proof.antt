@@ -1,3 +1,4 @@
+-- The number of bytes and 0, or the number of the refusal.
 use mathlib.Core.Path.{refl}
 use borrow.Author.Needs.{needs}
 use Rattle.film_writing.proofs.put_written.Statement.{statement}

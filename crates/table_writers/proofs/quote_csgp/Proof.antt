@@ -1,5 +1,5 @@
 -- By what the tally tells.
-use mathlib.Core.Path.{_≡_, sym, _∙_}
+use mathlib.Core.Path.{sym}
 use native.Mathlib.Omega.{arith}
 use Rattle.table_writers.proofs.Walk.{remain-length}
 use Rattle.table_writers.proofs.Answering.{over, quoted-csgp, quoted-over}

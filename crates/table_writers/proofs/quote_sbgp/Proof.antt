@@ -1,5 +1,4 @@
 -- By the test of 55.
-use mathlib.Core.Path.{_≡_}
 use borrow.Author.Tests.{lt-ltb, le-ltb}
 use Rattle.table_writers.proofs.Walk.{rows-length}
 use borrow.Author.Needs.{needs}

@@ -1,5 +1,5 @@
 -- By what the tally tells, then by the tests that led to each answer.
-use mathlib.Core.Path.{_≡_, sym, _∙_}
+use mathlib.Core.Path.{sym, _∙_}
 use native.Mathlib.Omega.{arith}
 use lib.ListN.{length}
 use Rattle.table_rows.specs.Row.{rowsOf}

@@ -1,6 +1,5 @@
 -- By the tests that led to each answer.
 use mathlib.Core.Path.{_≡_, sym, _∙_}
-use native.Mathlib.Omega.{arith}
 use lib.ListN.{length}
 use Rattle.table_rows.specs.Row.{rowsOf}
 use Rattle.table_writing.specs.Bodies.{sbgpBytes, sbgpLength}

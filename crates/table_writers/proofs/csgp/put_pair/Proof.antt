@@ -1,5 +1,5 @@
 -- The half byte behind the pattern length is free.
-use mathlib.Core.Path.{_≡_, refl, _∙_}
+use mathlib.Core.Path.{refl, _∙_}
 use native.Mathlib.Omega.{arith}
 use Rattle.table_writing.proofs.Put.{half-length, half-low}
 use borrow.Author.Needs.{needs}

@@ -1,13 +1,13 @@
 -- The pairs still to come make of the output what all of them make of the first.
-use mathlib.Core.Path.{_≡_, refl, ap, sym, _∙_}
-use Prim.Native.Nat.{_+_, _-_, _*_, _≤_, _<_}
+use mathlib.Core.Path.{_≡_, refl, sym, _∙_}
+use Prim.Native.Nat.{_+_, _-_, _*_, _≤_}
 use native.Mathlib.Omega.{arith}
 use borrow.Author.Needs.{needs}
 use lib.ListN.{length}
 use Rattle.table_rows.specs.Row.{rowsOf}
 use Rattle.table_writing.specs.Joined.{joined}
 use Rattle.table_writers.specs.Runs.{ahead}
-use Rattle.table_writers.specs.Halves.{PutsRuns, pairPut, pairsPut}
+use Rattle.table_writers.specs.Halves.{PutsRuns, pairsPut}
 use Rattle.table_writers.proofs.Halves.{row-room, row-put, pair-length, pair-free, pairs-step, pairs-place, pairs-end, place-end}
 use Rattle.table_writers.proofs.csgp.put_pairs.Statement.{statement}
 use Rattle.table_writers.proofs.csgp.put_pairs.Tie as tie

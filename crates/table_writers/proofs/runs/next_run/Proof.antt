@@ -1,5 +1,5 @@
 -- The first row with samples begins the run.
-use mathlib.Core.Path.{_≡_, sym, _∙_}
+use mathlib.Core.Path.{_∙_}
 use native.Mathlib.Omega.{arith}
 use Rattle.table_rows.proofs.Rows.{rows-first}
 use Rattle.table_writers.proofs.Walk.{ahead-end, gives-from}

@@ -1,9 +1,8 @@
 -- The invariant: as many rows remain from here as from the start.
 use mathlib.Core.Path.{_≡_, refl, _∙_}
-use Prim.Native.Nat.{_+_, _-_, _≤_, _<_}
-use native.Mathlib.Omega.{arith}
+use Prim.Native.Nat.{_-_, _≤_}
 use borrow.Author.Needs.{needs}
-use lib.ListN.{length, getD}
+use lib.ListN.{length}
 use Rattle.table_writers.specs.Runs.{ahead}
 use Rattle.table_writers.proofs.Walk.{pass-step}
 use Rattle.table_writers.proofs.runs.pass_empty.Statement.{statement}

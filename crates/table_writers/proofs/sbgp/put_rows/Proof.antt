@@ -1,6 +1,6 @@
 -- The words still to come make of the output what all of them make of the first.
 use mathlib.Core.Path.{_≡_, refl, ap, sym, _∙_}
-use Prim.Native.Nat.{ℕ, _+_, _-_, _*_, _%_, _≤_, _<_}
+use Prim.Native.Nat.{_+_, _-_, _*_, _%_, _≤_}
 use native.Mathlib.Omega.{arith}
 use borrow.Author.Needs.{needs}
 use lib.ListN.{length, getD, drop}
@@ -72,7 +72,6 @@ loop-again c =
     let o = at-loop .loop in
     let l = at-loop .before .before .before .args .rows .now in
     let p = 12 + 4 * o .i in
-    let one : sets (o .out) p (word (getD l (o .i) 0)) ≡ first .put-word .last .0 = sym (first .put-word .ensures) in
     let next : 16 + 4 * o .i ≡ p + 4 = omega arith in
     let behind : 12 + 4 * (o .i + 2) ≡ p + 4 + 4 = omega arith in
     let out : second .put-word2 .last .0 ≡ sets (sets (o .out) p (word (getD l (o .i) 0))) (p + 4) (word (getD l (o .i + 1) 0)) =

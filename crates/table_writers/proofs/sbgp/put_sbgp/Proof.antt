@@ -1,5 +1,5 @@
 -- The head, then the rows.
-use mathlib.Core.Path.{_≡_, ap, sym, _∙_}
+use mathlib.Core.Path.{_∙_}
 use native.Mathlib.Omega.{arith}
 use Rattle.table_rows.specs.Row.{rowsOf}
 use Rattle.table_writers.proofs.Bytes.{sbgp-put}

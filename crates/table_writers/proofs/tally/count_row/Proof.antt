@@ -1,3 +1,4 @@
+-- Each part of the tally by itself.
 use borrow.Author.Needs.{needs}
 use Rattle.table_writers.proofs.tally.count_row.Statement.{statement}
 use Rattle.table_writers.proofs.tally.count_row.Tie as tie

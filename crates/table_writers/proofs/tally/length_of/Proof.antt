@@ -1,6 +1,5 @@
 -- Four bits a half byte: (4 x + 7) / 8 is (x + 1) / 2.
-use mathlib.Core.Path.{_≡_, refl, ap, sym, _∙_}
-use Prim.Native.Nat.{ℕ, _+_, _*_, _/_, _≤_}
+use Prim.Native.Nat.{_+_, _*_, _/_, _≤_}
 use native.Mathlib.Nat.{mul-le-mul}
 use native.Mathlib.Omega.{arith}
 use Rattle.base_ids.specs.Limits.{recordLimit}

@@ -1,5 +1,5 @@
 -- Three words, one behind the other.
-use mathlib.Core.Path.{_≡_, refl, sym, _∙_}
+use mathlib.Core.Path.{sym, _∙_}
 use mathlib.Core.List.{[], _∷_}
 use Rattle.table_writers.proofs.Bytes.{words-first, words-none}
 use borrow.Author.Needs.{needs}
