@@ -42,7 +42,7 @@ void __aeabi_memclr4(void *to, size_t n) __attribute__((alias("__aeabi_memclr"))
 void __aeabi_memclr8(void *to, size_t n) __attribute__((alias("__aeabi_memclr")));
 
 /* Stored answers (docs/VECTORS.md): a line is a record in hexadecimal. */
-static uint8_t record[512];
+static uint8_t record[4096];
 static uint32_t rows[4096];
 static uint8_t listing[16384];
 
@@ -88,12 +88,29 @@ static int agrees(const uint8_t *r, unsigned length) {
     case 18: status = film_decode_alst(s, len, out); count = 3; break;
     case 19: status = film_alst_sample_offset(s, len, k, out); count = 1; break;
     case 20: status = film_alst_piece(s, len, k, out); count = 2; break;
+    case 21: status = film_sbgp_rows_needed(s, len, out); count = 1; break;
+    case 22: status = film_csgp_rows_needed(s, len, out); count = 1; break;
+    case 23:
+        if (argument[1] > 128 || argument[2] > 256) return 0;
+        status = film_cue_listing(s, len, k, rows, argument[1], listing, argument[2], out);
+        count = 2;
+        break;
+    case 24: status = film_find_stbl(s, len, k, out); count = 2; break;
     default: return 0;
     }
     if (told[0] != status || numbers + 8 * told[1] != r + length) return 0;
     if (status != 0) return told[1] == 0;
     for (unsigned i = 0; i < count; i++)
         if (big(numbers + 8 * i, 8) != out[i]) return 0;
+    if (r[0] == 23) { /* the rows' numbers, then the listing's bytes, eight to a number, the last one filled up with zeros */
+        uint64_t bytes = out[0], pairs = out[1];
+        if (told[1] != count + 2 * pairs + (bytes + 7) / 8) return 0;
+        for (unsigned i = 0; i < 2 * pairs; i++)
+            if (big(numbers + 8 * (count + i), 8) != rows[i]) return 0;
+        for (unsigned i = 0; i < 8 * ((bytes + 7) / 8); i++)
+            if (numbers[8 * (count + 2 * pairs) + i] != (i < bytes ? listing[i] : 0)) return 0;
+        return 1;
+    }
     if (r[0] != 5 && r[0] != 6) return told[1] == count;
     if (told[1] != count + 2 * out[2]) return 0;
     for (unsigned i = 0; i < 2 * out[2]; i++)
@@ -123,6 +140,7 @@ static void replay(const char *name, const char *from, const char *to, int expec
     text(same == (expected ? lines : 0) ? "\n" : "  WRONG\n");
 }
 
+extern const char films[], films_end[], listings[], listings_end[], damaged_listing[], damaged_listing_end[];
 extern const char atoms[], atoms_end[], tables[], tables_end[], descriptions[], descriptions_end[], document[], document_end[], damaged[], damaged_end[];
 
 /* Document 01's starred cases: status, then numbers. */
@@ -373,6 +391,9 @@ static void measured(void) {
 
 void reset(void) {
     replay("atoms", atoms, atoms_end, 1);
+    replay("films", films, films_end, 1);
+    replay("listing", listings, listings_end, 1);
+    replay("damaged_listing", damaged_listing, damaged_listing_end, 0);
     replay("tables", tables, tables_end, 1);
     replay("document", document, document_end, 1);
     replay("descriptions", descriptions, descriptions_end, 1);

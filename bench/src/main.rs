@@ -8,6 +8,7 @@ mod growth;
 mod hostile;
 mod inputs;
 mod listing;
+mod requests;
 
 use std::hint::black_box;
 
@@ -47,9 +48,15 @@ pub fn main() {
     bench.measure("nothing".into(), || ());
     for table in &words {
         match table.as_str() {
-            "entries" => entries::run(&mut bench),
+            "entries" => {
+                entries::run(&mut bench);
+                requests::run(&mut bench);
+            }
             "growth" => growth::run(&mut bench),
-            "samples" => growth::samples(&mut bench),
+            "samples" => {
+                growth::samples(&mut bench);
+                requests::samples(&mut bench);
+            }
             "periods" => growth::periods(&mut bench),
             "hostile" => hostile::run(&mut bench),
             "listings" => listing::run(&mut bench),

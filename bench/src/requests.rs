@@ -1,0 +1,86 @@
+//! The calls of document 02. Where the Rust has no counterpart, ours stands alone; a written table stands beside the Rust's reading of the same body.
+
+use crate::bench::Bench;
+use crate::bench::calls::*;
+use crate::bench::inputs::*;
+use crate::sample_groups;
+use std::hint::black_box;
+
+unsafe extern "C" {
+    fn film_find_stbl(s: *const u8, len: usize, track: u32, out: *mut u64) -> u32;
+    fn film_roll_start(s: *const u8, len: usize, frame: u32, out: *mut u64) -> u32;
+    fn film_quote_sbgp(rows: *const u32, len: usize, out: *mut u64) -> u32;
+    fn film_quote_csgp(rows: *const u32, len: usize, out: *mut u64) -> u32;
+    fn film_write_sbgp(kind: u32, rows: *const u32, len: usize, quoted: usize, body: *mut u8, body_len: usize, out: *mut u64) -> u32;
+    fn film_write_csgp(kind: u32, rows: *const u32, len: usize, quoted: usize, body: *mut u8, body_len: usize, out: *mut u64) -> u32;
+    fn film_last_sync_sample(s: *const u8, len: usize, frame: u32, out: *mut u64) -> u32;
+}
+
+type Quote = unsafe extern "C" fn(*const u32, usize, *mut u64) -> u32;
+type Write = unsafe extern "C" fn(u32, *const u32, usize, usize, *mut u8, usize, *mut u64) -> u32;
+
+/// A film of one track among `tiny` empty atoms.
+fn film(tiny: u32, stbl: &[u8]) -> Vec<u8> {
+    let mut inner = atom_of(b"stbl", stbl);
+    for kind in [b"minf", b"mdia", b"trak"] {
+        inner = atom_of(kind, &inner);
+    }
+    let mut moov: Vec<u8> = (0..tiny).flat_map(|_| atom_of(b"free", &[])).collect();
+    moov.extend(inner);
+    atom_of(b"moov", &moov)
+}
+
+/// A written table, its quote, and the Rust's reading of it.
+fn written(bench: &mut Bench, name: &str, quote: Quote, write: Write, rust: fn(&[u8]) -> crate::standalone::Result<sample_groups::SampleToGroup>) {
+    let rows: Vec<u32> = black_box((0..1000u32).flat_map(|k| [k % 7 + 1, k % 3]).collect());
+    let (mut out, rust) = ([0u64; 1], black_box(rust));
+    assert_eq!(unsafe { quote(rows.as_ptr(), rows.len(), out.as_mut_ptr()) }, 0);
+    let length = out[0] as usize;
+    let mut body = vec![0u8; length];
+    bench.measure(format!("entry\tquote_{name}, 1,000 rows\tours"), || drop(black_box(unsafe { quote(rows.as_ptr(), rows.len(), out.as_mut_ptr()) })));
+    let line = format!("write_{name}, 1,000 rows; the Rust reads the body");
+    bench.measure(format!("entry\t{line}\tours"), || {
+        let told = unsafe { write(0x726f_6c6c, rows.as_ptr(), rows.len(), length, body.as_mut_ptr(), length, out.as_mut_ptr()) };
+        assert_eq!(told, 0);
+    });
+    bench.measure(format!("entry\t{line}\trust"), || drop(black_box(rust(&body).unwrap())));
+}
+
+pub fn run(bench: &mut Bench) {
+    let s = black_box(film(1000, &[0; 64]));
+    let mut out = [0u64; 2];
+    bench.measure("entry\tfind_stbl, behind 1,000 atoms\tours".into(), || {
+        assert_eq!(unsafe { film_find_stbl(s.as_ptr(), s.len(), 0, out.as_mut_ptr()) }, 0)
+    });
+    written(bench, "sbgp", film_quote_sbgp, film_write_sbgp, sample_groups::parse_sbgp);
+    written(bench, "csgp", film_quote_csgp, film_write_csgp, sample_groups::parse_csgp);
+    let mut stss = [[0; 4], 1000u32.to_be_bytes()].concat();
+    stss.extend((1..=1000u32).flat_map(|k| (10 * k).to_be_bytes()));
+    let stss = black_box(stss);
+    bench.measure("entry\tlast_sync_sample, 1,000 numbers\tours".into(), || {
+        assert_eq!(unsafe { film_last_sync_sample(stss.as_ptr(), stss.len(), 5000, out.as_mut_ptr()) }, 0)
+    });
+}
+
+/// Where decoding begins for the last frame of a roll group, as its sample counts grow.
+pub fn samples(bench: &mut Bench) {
+    let sgpd = sgpd_of(b"roll", &[vec![0, 0], vec![0, 0]]);
+    for shape in ["roll_start, an sbgp row", "roll_start, csgp [1]", "roll_start, csgp [1,2]"] {
+        for samples in [1, 1000, 1_000_000, u32::MAX] {
+            let table = match shape {
+                "roll_start, an sbgp row" => {
+                    let row = [[0; 4], *b"roll", 1u32.to_be_bytes(), samples.to_be_bytes(), 1u32.to_be_bytes()].concat();
+                    atom_of(b"sbgp", &row)
+                }
+                "roll_start, csgp [1]" => atom_of(b"csgp", &csgp(b"roll", 3, &[(samples, vec![1])])),
+                _ => atom_of(b"csgp", &csgp(b"roll", 3, &[(samples, vec![1, 2])])),
+            };
+            let s = black_box([table, atom_of(b"sgpd", &sgpd)].concat());
+            let mut out = [0u64; 1];
+            bench.measure(format!("samples\t{shape}\t{samples}"), || {
+                assert_eq!(unsafe { film_roll_start(s.as_ptr(), s.len(), samples - 1, out.as_mut_ptr()) }, 0)
+            });
+            assert_eq!(out[0], samples as u64 - 1);
+        }
+    }
+}
