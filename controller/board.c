@@ -96,13 +96,18 @@ static int agrees(const uint8_t *r, unsigned length) {
         count = 2;
         break;
     case 24: status = film_find_stbl(s, len, k, out); count = 2; break;
+    case 25:
+        if (argument[2] > 128 || argument[3] > 256) return 0;
+        status = film_file_cue_listing(s, len, k, (uint32_t)argument[1], rows, argument[2], listing, argument[3], out);
+        count = 2;
+        break;
     default: return 0;
     }
     if (told[0] != status || numbers + 8 * told[1] != r + length) return 0;
     if (status != 0) return told[1] == 0;
     for (unsigned i = 0; i < count; i++)
         if (big(numbers + 8 * i, 8) != out[i]) return 0;
-    if (r[0] == 23) { /* the rows' numbers, then the listing's bytes, eight to a number, the last one filled up with zeros */
+    if (r[0] == 23 || r[0] == 25) { /* the rows' numbers, then the listing's bytes, eight to a number, the last one filled up with zeros */
         uint64_t bytes = out[0], pairs = out[1];
         if (told[1] != count + 2 * pairs + (bytes + 7) / 8) return 0;
         for (unsigned i = 0; i < 2 * pairs; i++)
@@ -140,6 +145,7 @@ static void replay(const char *name, const char *from, const char *to, int expec
     text(same == (expected ? lines : 0) ? "\n" : "  WRONG\n");
 }
 
+extern const char film_listings[], film_listings_end[], damaged_requests[], damaged_requests_end[];
 extern const char films[], films_end[], listings[], listings_end[], damaged_listing[], damaged_listing_end[];
 extern const char atoms[], atoms_end[], tables[], tables_end[], descriptions[], descriptions_end[], document[], document_end[], damaged[], damaged_end[];
 
@@ -394,6 +400,8 @@ void reset(void) {
     replay("films", films, films_end, 1);
     replay("listing", listings, listings_end, 1);
     replay("damaged_listing", damaged_listing, damaged_listing_end, 0);
+    replay("film_listings", film_listings, film_listings_end, 1);
+    replay("damaged_requests", damaged_requests, damaged_requests_end, 0);
     replay("tables", tables, tables_end, 1);
     replay("document", document, document_end, 1);
     replay("descriptions", descriptions, descriptions_end, 1);

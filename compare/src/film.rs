@@ -208,17 +208,14 @@ pub fn vectors(out: &mut Vectors) {
             }
         }
     };
-    let mut path = vec![9u8, 9];
-    for kind in PATH.iter().rev() {
-        path = wrapped_plain(kind, &path);
-    }
+    let path = plain(&[9, 9]);
     add(&path);
     add(&[&path[..], &path[..]].concat());
-    for fault in [&[0u8, 0, 0][..], &[0, 0, 0, 1, b'a', b'b', b'c', b'd', 0], &[0, 0, 0, 7, b'f', b'r', b'e', b'e'], &extended(15), &extended(u64::MAX)] {
+    for fault in &faults() {
         add(&[&path[..], fault].concat());
         let mut inner = vec![9u8];
         for (k, kind) in PATH.iter().rev().enumerate() {
-            let behind = if k == 2 { fault } else { &[] };
+            let behind: &[u8] = if k == 2 { fault } else { &[] };
             inner = [&wrapped_plain(kind, &inner)[..], behind].concat();
         }
         add(&wrapped_plain(b"free", &inner));
@@ -231,6 +228,69 @@ pub fn vectors(out: &mut Vectors) {
         let cut = random.below(s.len() as u64 + 1) as usize;
         add(&s[..cut]);
     }
+}
+
+/// The cue listing of a track: the search's refusal, or the listing of the body that it finds. At most `most` lines of a refusal are stored, and some more listings.
+fn sample(out: &mut Vectors, random: &mut Random, most: usize, kind: &[u8; 4], track: u32, s: &[u8]) {
+    let (place, size) = match find(s, track) {
+        Answer::Given([place, size]) => (place as usize, size as usize),
+        told => return out.add_few(most, 25, &[track as u64, u32::from_be_bytes(*kind) as u64, 8, 40], s, told.map(|n| n.to_vec())),
+    };
+    for ([kind, numbers, room], answer) in listing::answers(random, kind, &s[place..place + size]) {
+        let most = if let Answer::Given(_) = answer { most.saturating_mul(8) } else { most };
+        out.add_few(most, 25, &[track as u64, kind, numbers, room], s, answer);
+    }
+}
+
+/// Films around bodies: two tracks, a fault at the top and in the stbl, a moov that is cut, containers that are missing, and every refusal of the body.
+pub fn listing_vectors(out: &mut Vectors) {
+    let random = &mut Random::new(0xa25);
+    let (starred, all) = (listing::starred(), usize::MAX);
+    let film = plain(&starred);
+    sample(out, random, all, b"roll", 0, &film);
+    sample(out, random, all, b"prol", 0, &film);
+    sample(out, random, all, b"roll", 1, &film);
+    sample(out, random, all, b"roll", u32::MAX, &film);
+    // Two tracks, the first without a table.
+    let tracks: Vec<u8> = [&[][..], &starred].iter().flat_map(|stbl| plain(stbl)[8..].to_vec()).collect();
+    for track in 0..3 {
+        sample(out, random, all, b"roll", track, &wrapped_plain(b"moov", &tracks));
+    }
+    for fault in &faults() {
+        sample(out, random, all, b"roll", 0, &[&film[..], fault].concat());
+        sample(out, random, all, b"roll", 0, &plain(&[&starred[..], fault].concat()));
+    }
+    sample(out, random, all, b"roll", 0, &film[..film.len() - 1]);
+    for (depth, kind) in PATH.iter().enumerate().rev() {
+        let cut = PATH[..depth].iter().rev().fold(wrapped_plain(b"free", &[]), |inner, kind| wrapped_plain(kind, &inner));
+        sample(out, random, all, b"roll", 0, &cut);
+        // an atom of the path that passes its parent's end
+        let mut far = film.clone();
+        let at = 8 * depth;
+        assert!(far[at + 4..at + 8] == **kind);
+        far[at + 3] += 1;
+        sample(out, random, all, b"roll", 0, &far);
+    }
+    // A rash whose trailer is cut.
+    let rash = stbl::Film { kind: *b"rash", values: vec![vec![0, 1, 0, 7, 0, 0, 0, 8, 0, 0, 0, 9]], cues: vec![stbl::Cue::Value(0)] };
+    let body = (0..100).map(|_| stbl::body(random, &rash)).min_by_key(Vec::len).unwrap();
+    sample(out, random, 1, b"rash", 0, &plain(&body));
+    listing::short_bodies(&mut Random::new(0xa26), |random, kind, s| {
+        let film = if random.one_in(3) { whole(random, 1, s) } else { plain(s) };
+        if film.len() <= 160 {
+            sample(out, random, 2, kind, 0, &film);
+        }
+    });
+}
+
+/// Headers that are refused: 1 to 5.
+fn faults() -> [Vec<u8>; 5] {
+    [vec![0, 0, 0], vec![0, 0, 0, 1, b'a', b'b', b'c', b'd', 0], [&[0, 0, 0, 7], &b"free"[..]].concat(), extended(15), extended(u64::MAX)]
+}
+
+/// A film of one track around the body of its stbl.
+fn plain(stbl: &[u8]) -> Vec<u8> {
+    PATH.iter().rev().fold(stbl.to_vec(), |inner, kind| wrapped_plain(kind, &inner))
 }
 
 fn wrapped_plain(kind: &[u8; 4], body: &[u8]) -> Vec<u8> {

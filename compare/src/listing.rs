@@ -6,7 +6,7 @@ use super::random::Random;
 use super::sgpd::{self, TYPES};
 use super::stbl::{self, Cue, Film, Parts};
 use super::tally::Tally;
-use super::vectors::Vectors;
+use super::vectors::{Vectors, eights};
 use super::{atoms, csgp, entries, tables};
 use crate::atom;
 use crate::sample_groups::{self as rust, SampleGroupDescription, SampleToGroup, SampleToGroupEntry};
@@ -581,64 +581,72 @@ pub fn run_pairs(tally: &mut Tally) {
     }
 }
 
-/// A body as stored vectors: records and output exactly enough, some more, and one less of either. Those that would make long lines are left out.
-fn sample(out: &mut Vectors, random: &mut Random, kind: &[u8; 4], s: &[u8]) {
+/// A body's answers with their arguments, to be stored: records and output exactly enough, some more, and one less of either. None of those that would make long
+/// lines.
+pub fn answers(random: &mut Random, kind: &[u8; 4], s: &[u8]) -> Vec<([u64; 3], Answer<Vec<u64>>)> {
     let told = told(s, kind);
     let length = match &told {
-        Told::Read(rows, _) if rows.endless => return,
+        Told::Read(rows, _) if rows.endless => return vec![],
         Told::Read(_, Ok(listing)) => listing.len(),
         _ => 0,
     };
     let numbers = 2 * told.rows();
     if s.len() > 110 || numbers > 20 || length > 60 {
-        return;
+        return vec![];
     }
     let spare = (numbers + random.below(4) as usize, length + random.below(9) as usize);
-    for (numbers, room) in [(numbers, length), spare, (numbers.saturating_sub(1), length), (numbers, length.saturating_sub(1))] {
+    let lent = [(numbers, length), spare, (numbers.saturating_sub(1), length), (numbers, length.saturating_sub(1))];
+    let answer = |(numbers, room)| {
         let answer = told.answer(numbers / 2, room).map(|(listing, rows)| {
             let mut told = vec![listing.len() as u64, rows.len() as u64];
             told.extend(rows.iter().flat_map(|&(n, i)| [n as u64, i as u64]));
-            told.extend(listing.chunks(8).map(|bytes| {
-                let mut eight = [0; 8];
-                eight[..bytes.len()].copy_from_slice(bytes);
-                u64::from_be_bytes(eight)
-            }));
+            told.extend(eights(&listing));
             told
         });
-        out.add(23, &[u32::from_be_bytes(*kind) as u64, numbers as u64, room as u64], s, answer);
-    }
+        ([u32::from_be_bytes(*kind) as u64, numbers as u64, room as u64], answer)
+    };
+    lent.map(answer).into()
 }
 
-pub fn vectors(out: &mut Vectors) {
-    let random = &mut Random::new(23);
-    sample(out, random, b"roll", &starred());
+/// Short bodies with their types: whole ones with every byte changed, entries that do not decode, damage, cut payloads, shares, children that should not be there, and
+/// large counts.
+pub fn short_bodies(random: &mut Random, mut take: impl FnMut(&mut Random, &[u8; 4], &[u8])) {
+    take(random, b"roll", &starred());
     for kind in TYPES {
         let film = Film { kind: *kind, values: vec![stbl::entry(random, kind)], cues: vec![Cue::Value(0), Cue::Value(0), Cue::NoGroup, Cue::Past] };
         let s = stbl::body(random, &film);
-        sample(out, random, kind, &s);
+        take(random, kind, &s);
         for at in 0..s.len() {
             let mut changed = s.clone();
             changed[at] = if s[at] == 1 { 0 } else { s[at] ^ 1 << random.below(8) };
-            sample(out, random, kind, &changed);
+            take(random, kind, &changed);
         }
     }
     // A rash without points.
     for _ in 0..8 {
         let s = stbl::body(random, &Film { kind: *b"rash", values: vec![vec![0, 0]], cues: vec![Cue::Value(0)] });
-        sample(out, random, b"rash", &s);
+        take(random, b"rash", &s);
     }
     for _ in 0..4000 {
         let film = if random.one_in(3) { wild(random, 6) } else { film(random, 6) };
         let s = stbl::body(random, &film);
-        sample(out, random, &film.kind, &s);
+        take(random, &film.kind, &s);
         let s = damaged(random, s);
-        sample(out, random, &film.kind, &s);
+        take(random, &film.kind, &s);
         let parts = cut_or_shared(random, &film);
         let s = stbl::assembled(random, &film.kind, &parts);
-        sample(out, random, &film.kind, &s);
+        take(random, &film.kind, &s);
         let s = misbuilt(random, &film);
-        sample(out, random, &film.kind, &s);
+        take(random, &film.kind, &s);
         let (film, s) = large(random);
-        sample(out, random, &film.kind, &s);
+        take(random, &film.kind, &s);
     }
+}
+
+pub fn vectors(out: &mut Vectors) {
+    short_bodies(&mut Random::new(23), |random, kind, s| {
+        for (arguments, answer) in answers(random, kind, s) {
+            out.add(23, &arguments, s, answer);
+        }
+    });
 }

@@ -22,8 +22,10 @@ mod writing;
 /// The longest input of document 01's domain.
 const MIB: usize = 1 << 20;
 
-/// The files of stored vectors that hold right answers, but for those of the listing and of films.
+/// The files of stored vectors that hold right answers, by the file of their damaged lines.
 const FILES: [&str; 4] = ["atoms", "tables", "document", "descriptions"];
+const LISTINGS: [&str; 2] = ["listing", "films"];
+const REQUESTS: [&str; 1] = ["film_listings"];
 
 fn vectors_of(name: &str) -> vectors::Vectors {
     let mut vectors = vectors::Vectors::default();
@@ -34,6 +36,7 @@ fn vectors_of(name: &str) -> vectors::Vectors {
         "descriptions" => &[sgpd::vectors, entries::vectors],
         "listing" => &[listing::vectors],
         "films" => &[film::vectors],
+        "film_listings" => &[film::listing_vectors],
         _ => panic!("vectors of what?"),
     };
     parts.iter().for_each(|part| part(&mut vectors));
@@ -46,7 +49,8 @@ pub fn main() {
         assert!(word == "vectors", "vectors of what?");
         match name.as_str() {
             "damaged" => vectors::print_damaged(&FILES.map(vectors_of)),
-            "damaged_listing" => vectors::print_damaged_listing(&["listing", "films"].map(vectors_of)),
+            "damaged_listing" => vectors::print_damaged_listing(&LISTINGS.map(vectors_of)),
+            "damaged_requests" => vectors::print_damaged_requests(&REQUESTS.map(vectors_of)),
             name => vectors_of(name).print(),
         }
         return;

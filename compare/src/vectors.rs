@@ -40,6 +40,13 @@ const LISTING: [(u8, &[u8]); 2] = [
     (23, &[1, 2, 3, 4, 5, 6, 8, 20, 21, 22, 23, 24, 25, 26, 27, 28, 29, 30, 31, 32, 33, 34, 35, 40, 41, 42, 43, 44, 45, 50, 51, 52, 53, 54]),
 ];
 
+/// The refusals of a film's cue listing.
+const FILE_LISTING: [u8; 37] =
+    [1, 2, 3, 4, 5, 6, 8, 11, 20, 21, 22, 23, 24, 25, 26, 27, 28, 29, 30, 31, 32, 33, 34, 35, 40, 41, 42, 43, 44, 45, 50, 51, 52, 53, 54, 60, 61];
+
+/// The same of the other entries that document 02 asks for.
+const REQUESTS: [(u8, &[u8]); 1] = [(25, &FILE_LISTING)];
+
 #[derive(Clone, PartialEq, Eq, PartialOrd, Ord)]
 struct Line {
     entry: u8,
@@ -66,6 +73,23 @@ impl Line {
     }
 }
 
+fn status(answer: &Answer<Vec<u64>>) -> u8 {
+    match answer {
+        Answer::Given(_) => 0,
+        Answer::None => NONE,
+        Answer::Refused(n) => *n as u8,
+    }
+}
+
+/// Bytes as numbers, eight to a number, the last one filled up with zeros.
+pub fn eights(bytes: &[u8]) -> impl Iterator<Item = u64> {
+    bytes.chunks(8).map(|part| {
+        let mut eight = [0; 8];
+        eight[..part.len()].copy_from_slice(part);
+        u64::from_be_bytes(eight)
+    })
+}
+
 /// Lines with different inputs and answers.
 #[derive(Default)]
 pub struct Vectors {
@@ -76,14 +100,19 @@ pub struct Vectors {
 impl Vectors {
     /// One answer of the Rust for an entry, by the entry's number in docs/VECTORS.md.
     pub fn add(&mut self, entry: u8, arguments: &[u64], input: &[u8], answer: Answer<Vec<u64>>) {
-        let (status, numbers) = match answer {
-            Answer::Given(numbers) => (0, numbers),
-            Answer::None => (NONE, vec![]),
-            Answer::Refused(n) => (n as u8, vec![]),
-        };
+        let status = status(&answer);
+        let numbers = if let Answer::Given(numbers) = answer { numbers } else { vec![] };
         let line = Line { entry, arguments: arguments.to_vec(), input: input.to_vec(), status, numbers };
         if self.seen.insert(line.clone()) {
             self.lines.push(line);
+        }
+    }
+
+    /// The same, unless there are already `most` lines of the entry with this status.
+    pub fn add_few(&mut self, most: usize, entry: u8, arguments: &[u64], input: &[u8], answer: Answer<Vec<u64>>) {
+        let status = status(&answer);
+        if self.lines.iter().filter(|line| line.entry == entry && line.status == status).count() < most {
+            self.add(entry, arguments, input, answer);
         }
     }
 
@@ -117,14 +146,20 @@ impl Vectors {
 /// Prints lines that a replay must find to differ, for each entry: an answer in all its parts, each of its statuses as another one, and lines that
 /// are no record of a call. Fails where the files lack a status.
 pub fn print_damaged(files: &[Vectors]) {
-    damaged(&STATUSES, files)
+    damaged(&STATUSES, files, false)
 }
 
 pub fn print_damaged_listing(files: &[Vectors]) {
-    damaged(&LISTING, files)
+    damaged(&LISTING, files, false)
 }
 
-fn damaged(entries: &[(u8, &[u8])], files: &[Vectors]) {
+/// Of these entries each status is told in two other ways only. Their lines are few enough to be stored all.
+pub fn print_damaged_requests(files: &[Vectors]) {
+    assert!(files.iter().all(|file| file.chosen().len() == file.lines.len()), "lines that do not fit into a file");
+    damaged(&REQUESTS, files, true)
+}
+
+fn damaged(entries: &[(u8, &[u8])], files: &[Vectors], few: bool) {
     let lines: Vec<&Line> = files.iter().flat_map(Vectors::chosen).collect();
     let mut damaged = Vec::new();
     for &(entry, statuses) in entries {
@@ -145,10 +180,11 @@ fn damaged(entries: &[(u8, &[u8])], files: &[Vectors]) {
         damaged.extend([&last[..], &numbers[..numbers.len() - 1], &[&numbers[..], &[0]].concat(), &[]].map(|other| value.told(0, other)));
         for &status in statuses {
             let line = of(status);
-            for other in [0, status ^ 1, NONE].into_iter().filter(|&other| other != status) {
-                damaged.push(line.told(other, &[]));
+            let others: &[u8] = if few { &[0, status ^ 1] } else { &[0, status ^ 1, NONE] };
+            damaged.extend(others.iter().filter(|&&other| other != status).map(|&other| line.told(other, &[])));
+            if !few {
+                damaged.extend([line.told(0, numbers), line.told(status, &[0])]);
             }
-            damaged.extend([line.told(0, numbers), line.told(status, &[0])]);
         }
     }
     let mut told = BTreeSet::new();

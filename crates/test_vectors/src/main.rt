@@ -1,4 +1,4 @@
-// Replays the stored answers of the Rust (data/; docs/VECTORS.md says how they were made) and tells how many differ.
+// Replays the stored answers (data/; docs/VECTORS.md says how they were made) and tells how many differ.
 ghost use Prim.Native.Nat.{_≤_};
 use libc::STDOUT_FILENO;
 
@@ -32,6 +32,7 @@ fn agrees(record: &[u8]) -> bool {
         21..=22 => test_vectors_tables::agrees(record),
         23 => test_vectors_listing::agrees(record),
         24 => test_vectors_atoms::agrees(record),
+        25 => test_vectors_listing::agrees(record),
         _ => test_vectors_descriptions::agrees(record),
     }
 }
@@ -80,6 +81,8 @@ fn main() {
     replay(b"document");
     replay(b"descriptions");
     replay(b"listing");
+    replay(b"film_listings");
     replay(b"damaged");
     replay(b"damaged_listing");
+    replay(b"damaged_requests");
 }

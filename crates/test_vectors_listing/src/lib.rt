@@ -45,15 +45,30 @@ fn same_numbers(seen: &[u8], size: u64, count: u64, rows: &[u32], listing: &[u8]
     false
 }
 
+fn list(record: &[u8], rows: &mut [u32], listing: &mut [u8], out: &mut [u64; 2]) -> u32 {
+    if test_vector_lines::entry(record) == 23 {
+        film_listing::film_cue_listing(
+            test_vector_lines::input(record),
+            test_vector_lines::argument_u32(record, 0),
+            rows,
+            listing,
+            out,
+        )
+    } else {
+        film_listing::film_file_cue_listing(
+            test_vector_lines::input(record),
+            test_vector_lines::argument_u32(record, 0),
+            test_vector_lines::argument_u32(record, 1),
+            rows,
+            listing,
+            out,
+        )
+    }
+}
+
 fn listed(record: &[u8], rows: &mut [u32], listing: &mut [u8]) -> bool {
     let mut out = [0u64; 2];
-    let status = film_listing::film_cue_listing(
-        test_vector_lines::input(record),
-        test_vector_lines::argument_u32(record, 0),
-        rows,
-        listing,
-        &mut out,
-    );
+    let status = list(record, rows, listing, &mut out);
     if test_vector_lines::same_status(record, status) {
         if status != 0 {
             return true;
@@ -69,15 +84,13 @@ fn listed(record: &[u8], rows: &mut [u32], listing: &mut [u8]) -> bool {
     false
 }
 
-// The arguments are the type, the numbers lent for rows (at most 128 here) and the bytes lent for the listing (at most 256).
-fn cue(record: &[u8]) -> bool {
+// The numbers lent for rows are at most 128 here, and the bytes lent for the listing at most 256.
+fn cue(record: &[u8], numbers: u64, bytes: u64) -> bool {
     let mut rows = [0u32; 128];
     let mut listing = [0u8; 256];
-    let numbers = test_vector_lines::argument(record, 1);
     if 128 < numbers {
         return false;
     }
-    let bytes = test_vector_lines::argument(record, 2);
     if 256 < bytes {
         return false;
     }
@@ -88,10 +101,19 @@ fn cue(record: &[u8]) -> bool {
     )
 }
 
-// The entry that the record names, by its number in docs/VECTORS.md.
+// The entry that the record names, by its number in docs/VECTORS.md. Of a film the first argument is the track.
 pub fn agrees(record: &[u8]) -> bool {
-    if test_vector_lines::entry(record) == 23 {
-        return cue(record);
+    match test_vector_lines::entry(record) {
+        23 => cue(
+            record,
+            test_vector_lines::argument(record, 1),
+            test_vector_lines::argument(record, 2),
+        ),
+        25 => cue(
+            record,
+            test_vector_lines::argument(record, 2),
+            test_vector_lines::argument(record, 3),
+        ),
+        _ => false,
     }
-    false
 }

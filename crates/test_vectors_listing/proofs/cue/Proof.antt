@@ -5,14 +5,8 @@ use borrow.Author.Needs.{needs}
 use Rattle.test_vectors_listing.proofs.cue.Statement.{statement}
 use Rattle.test_vectors_listing.proofs.cue.Tie as tie
 
-argument-requires : tie.Need-argument-requires
-argument-requires c κs = search needs
-
 returns : tie.Need-returns
 returns c = search needs
-
-argument-requires-2 : tie.Need-argument-requires-2
-argument-requires-2 c κs = search needs
 
 returns-2 : tie.Need-returns-2
 returns-2 c = search needs
@@ -21,7 +15,7 @@ array-borrow-prefix-rows : tie.Need-array-borrow-prefix-rows
 array-borrow-prefix-rows c = search needs
 
 slice-aggregate-listed : tie.Need-slice-aggregate-listed
-slice-aggregate-listed c = sym (length-take-le _ _ (c .before .before .before .if1 .left))
+slice-aggregate-listed c = sym (length-take-le _ _ (c .before .before .if1 .left))
 
 array-borrow-prefix-listing : tie.Need-array-borrow-prefix-listing
 array-borrow-prefix-listing c = search needs
@@ -39,9 +33,7 @@ pub cue-spec : {M : Type 1} → statement M
 cue-spec =
     tie.close
     (tie.spec
-    argument-requires
     returns
-    argument-requires-2
     returns-2
     array-borrow-prefix-rows
     slice-aggregate-listed
