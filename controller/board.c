@@ -101,6 +101,8 @@ static int agrees(const uint8_t *r, unsigned length) {
         status = film_file_cue_listing(s, len, k, (uint32_t)argument[1], rows, argument[2], listing, argument[3], out);
         count = 2;
         break;
+    case 26: status = film_roll_start(s, len, k, out); count = 1; break;
+    case 27: status = film_rap_start(s, len, k, out); count = 1; break;
     default: return 0;
     }
     if (told[0] != status || numbers + 8 * told[1] != r + length) return 0;
@@ -145,7 +147,7 @@ static void replay(const char *name, const char *from, const char *to, int expec
     text(same == (expected ? lines : 0) ? "\n" : "  WRONG\n");
 }
 
-extern const char film_listings[], film_listings_end[], damaged_requests[], damaged_requests_end[];
+extern const char film_listings[], film_listings_end[], starts[], starts_end[], damaged_requests[], damaged_requests_end[];
 extern const char films[], films_end[], listings[], listings_end[], damaged_listing[], damaged_listing_end[];
 extern const char atoms[], atoms_end[], tables[], tables_end[], descriptions[], descriptions_end[], document[], document_end[], damaged[], damaged_end[];
 
@@ -401,6 +403,7 @@ void reset(void) {
     replay("listing", listings, listings_end, 1);
     replay("damaged_listing", damaged_listing, damaged_listing_end, 0);
     replay("film_listings", film_listings, film_listings_end, 1);
+    replay("starts", starts, starts_end, 1);
     replay("damaged_requests", damaged_requests, damaged_requests_end, 0);
     replay("tables", tables, tables_end, 1);
     replay("document", document, document_end, 1);

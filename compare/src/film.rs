@@ -284,7 +284,7 @@ pub fn listing_vectors(out: &mut Vectors) {
 }
 
 /// Headers that are refused: 1 to 5.
-fn faults() -> [Vec<u8>; 5] {
+pub fn faults() -> [Vec<u8>; 5] {
     [vec![0, 0, 0], vec![0, 0, 0, 1, b'a', b'b', b'c', b'd', 0], [&[0, 0, 0, 7], &b"free"[..]].concat(), extended(15), extended(u64::MAX)]
 }
 
@@ -293,7 +293,7 @@ fn plain(stbl: &[u8]) -> Vec<u8> {
     PATH.iter().rev().fold(stbl.to_vec(), |inner, kind| wrapped_plain(kind, &inner))
 }
 
-fn wrapped_plain(kind: &[u8; 4], body: &[u8]) -> Vec<u8> {
+pub fn wrapped_plain(kind: &[u8; 4], body: &[u8]) -> Vec<u8> {
     [&(body.len() as u32 + 8).to_be_bytes()[..], kind, body].concat()
 }
 

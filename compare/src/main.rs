@@ -25,7 +25,7 @@ const MIB: usize = 1 << 20;
 /// The files of stored vectors that hold right answers, by the file of their damaged lines.
 const FILES: [&str; 4] = ["atoms", "tables", "document", "descriptions"];
 const LISTINGS: [&str; 2] = ["listing", "films"];
-const REQUESTS: [&str; 1] = ["film_listings"];
+const REQUESTS: [&str; 2] = ["film_listings", "starts"];
 
 fn vectors_of(name: &str) -> vectors::Vectors {
     let mut vectors = vectors::Vectors::default();
@@ -37,6 +37,7 @@ fn vectors_of(name: &str) -> vectors::Vectors {
         "listing" => &[listing::vectors],
         "films" => &[film::vectors],
         "film_listings" => &[film::listing_vectors],
+        "starts" => &[starts::vectors],
         _ => panic!("vectors of what?"),
     };
     parts.iter().for_each(|part| part(&mut vectors));

@@ -6,7 +6,8 @@ use super::listing::{self, Meaning};
 use super::random::Random;
 use super::stbl::{self, Film};
 use super::tally::Tally;
-use super::{csgp, sbgp, sgpd};
+use super::vectors::Vectors;
+use super::{csgp, film, sbgp, sgpd, writing};
 use crate::sample_groups as rust;
 use std::collections::BTreeMap;
 
@@ -38,12 +39,14 @@ fn row_over(patterns: &Patterns) -> bool {
     false
 }
 
-/// What is read of a body: the patterns, whether the Rust's own table has them, and the descriptions.
+/// What is read of a body: the patterns, whether the Rust's own table has them, and the descriptions. Tables of up to `samples` samples are searched from the first to
+/// the last.
 struct Read {
     patterns: Patterns,
     table: Option<rust::SampleToGroup>,
     entries: rust::SampleGroupDescription,
     covered: u64,
+    samples: u64,
 }
 
 fn read(s: &[u8], kind: &[u8; 4]) -> Result<Read, u32> {
@@ -61,16 +64,18 @@ fn read(s: &[u8], kind: &[u8; 4]) -> Result<Read, u32> {
     };
     let entries = rust::parse_sgpd(&sources.sgpd).map_err(|e| sgpd::number(&e))?;
     let covered = patterns.iter().map(|(n, _)| *n as u64).sum();
-    Ok(Read { patterns, table, entries, covered })
+    Ok(Read { patterns, table, entries, covered, samples: SAMPLES })
 }
 
-/// Tables of so many samples are searched from the first sample to the last; of longer ones the samples up to the frame, or the last so many of them.
+/// Tables of so many samples are searched from the first sample to the last, and those that are stored of so many; of longer ones the samples up to the frame, or the
+/// last so many of them.
 const SAMPLES: u64 = 5000;
+const STORED: u64 = 40_000;
 const WINDOW: u64 = 500;
 
 impl Read {
     fn index(&self, k: u64) -> u32 {
-        if let (Some(table), true) = (&self.table, self.covered <= SAMPLES) {
+        if let (Some(table), true) = (&self.table, self.covered <= self.samples) {
             return table.group_index_for_sample(k as u32);
         }
         let mut k = k;
@@ -95,7 +100,7 @@ impl Read {
 
     /// The indices that samples up to the frame use, in the order of their first use.
     fn used(&self, frame: u64) -> Vec<u32> {
-        if self.covered <= SAMPLES {
+        if self.covered <= self.samples {
             return (0..=frame).map(|k| self.index(k)).collect();
         }
         let (mut used, mut left) = (Vec::new(), frame + 1);
@@ -118,7 +123,7 @@ impl Read {
                 return Some(Answer::Refused(n));
             }
         }
-        let samples = if covered <= SAMPLES { 0..covered } else { (frame + 1).saturating_sub(WINDOW)..frame + 1 };
+        let samples = if covered <= self.samples { 0..covered } else { (frame + 1).saturating_sub(WINDOW)..frame + 1 };
         let first = samples.start;
         let mut best = None;
         for k in samples {
@@ -275,4 +280,129 @@ pub fn run(tally: &mut Tally) {
         compare(tally, random, seen, &film.kind, &s);
     }
     assert!(seen.keys().eq(&REFUSALS), "not every refusal was met, or one that cannot be: {seen:?}");
+}
+
+/// The answer for a frame, stored unless there are `most` like it; none where it is not known.
+fn sample(out: &mut Vectors, most: usize, kind: &[u8; 4], s: &[u8], frame: u32) -> Option<Answer<u32>> {
+    let told = match read(s, kind) {
+        Err(n) => Answer::Refused(n),
+        Ok(read) => Read { samples: STORED, ..read }.start(kind, frame as u64)?,
+    };
+    let entry = if kind == b"roll" { 26 } else { 27 };
+    out.add_few(most, entry, &[frame as u64], s, told.clone().map(|k| vec![k as u64]));
+    Some(told)
+}
+
+/// The body of an stbl with a table and an sgpd whose entries have these bytes.
+fn body(kind: &[u8; 4], table: &Table, entries: &[&[u8]]) -> Vec<u8> {
+    let bytes: Vec<u8> = entries.iter().flat_map(|e| [&(e.len() as u32).to_be_bytes(), *e].concat()).collect();
+    let sgpd = sgpd::payload(&mut Random::new(33), 1, kind, 0, entries.len() as u32, &bytes);
+    around(kind, table, &sgpd)
+}
+
+enum Table<'a> {
+    Rows(&'a [(u32, u32)]),
+    Patterns(&'a [csgp::Pattern]),
+}
+
+fn around(kind: &[u8; 4], table: &Table, sgpd: &[u8]) -> Vec<u8> {
+    let table = match table {
+        Table::Rows(rows) => film::wrapped_plain(b"sbgp", &writing::sbgp_body(*kind, rows)),
+        Table::Patterns(patterns) => {
+            let shape = csgp::Shape { index: 0, count: 3, length: 0, parameter: false };
+            let mut s = csgp::payload(&mut Random::new(32), shape, patterns.len() as u32, patterns).unwrap();
+            s[4..8].copy_from_slice(kind);
+            film::wrapped_plain(b"csgp", &s)
+        }
+    };
+    [table, film::wrapped_plain(b"sgpd", sgpd)].concat()
+}
+
+/// Frames of one body with the answers that they must have by document 02's words; the calculation above has to give them too.
+fn told(out: &mut Vectors, kind: &[u8; 4], s: &[u8], frames: &[(u32, Answer<u32>)]) {
+    for (frame, answer) in frames {
+        assert_eq!(sample(out, usize::MAX, kind, s, *frame).as_ref(), Some(answer), "frame {frame} of {s:02x?}");
+    }
+}
+
+pub fn vectors(out: &mut Vectors) {
+    use Answer::{Given, None, Refused};
+    use Table::{Patterns, Rows};
+    let most = u32::MAX;
+    let distances = |table: Table, distances: &[i16]| {
+        let bytes: Vec<[u8; 2]> = distances.iter().map(|d| d.to_be_bytes()).collect();
+        body(b"roll", &table, &bytes.iter().map(|e| &e[..]).collect::<Vec<_>>())
+    };
+    let points = |table: Table| body(b"rap ", &table, &[&[0x83]]);
+    // A negative distance begins before its sample, if there are so many; a positive one is clean behind it.
+    let s = distances(Rows(&[(2, 0), (3, 1), (1, 0)]), &[-2]);
+    told(out, b"roll", &s, &[(0, None), (1, None), (2, Given(0)), (3, Given(1)), (4, Given(2)), (5, Given(2)), (6, Refused(62)), (most, Refused(62))]);
+    told(out, b"roll", &distances(Rows(&[(2, 1), (1, 0)]), &[-3]), &[(0, None), (2, None), (3, Refused(62))]);
+    told(out, b"roll", &distances(Rows(&[(300, 0), (2, 1)]), &[-300]), &[(299, None), (300, Given(0)), (301, Given(1))]);
+    told(out, b"roll", &distances(Rows(&[(4, 1)]), &[2]), &[(0, None), (1, None), (2, Given(0)), (3, Given(1))]);
+    told(out, b"roll", &distances(Rows(&[(3, 1)]), &[0]), &[(0, Given(0)), (2, Given(2))]);
+    told(out, b"roll", &distances(Rows(&[(3, 1), (3, 2)]), &[i16::MAX, i16::MIN]), &[(5, None)]);
+    told(out, b"roll", &distances(Rows(&[(32_768, 0), (2, 1)]), &[i16::MIN]), &[(32_767, None), (32_768, Given(0)), (32_769, Given(1))]);
+    told(out, b"roll", &distances(Rows(&[(32_769, 1)]), &[i16::MAX]), &[(32_766, None), (32_767, Given(0)), (32_768, Given(1))]);
+    // The latest begin is not that of the latest sample, and a sample behind the frame does not count.
+    let s = distances(Rows(&[(2, 0), (1, 1), (3, 0), (1, 2), (1, 3)]), &[0, -5, -4]);
+    told(out, b"roll", &s, &[(1, None), (2, Given(2)), (5, Given(2)), (6, Given(2)), (7, Given(3))]);
+    // An index past the entries is no member; an entry that is not used may be anything.
+    told(out, b"roll", &distances(Rows(&[(1, 1), (3, 2), (1, most)]), &[1]), &[(0, None), (1, Given(0)), (4, Given(0))]);
+    told(out, b"roll", &body(b"roll", &Rows(&[(2, 1)]), &[&[0, 0], &[]]), &[(1, Given(1))]);
+    // An entry that is refused is so from its first sample on, though a later one would be found; 62 comes before.
+    let s = body(b"roll", &Rows(&[(2, 1), (1, 2), (1, 1)]), &[&[0, 0], &[7]]);
+    told(out, b"roll", &s, &[(1, Given(1)), (2, Refused(40)), (3, Refused(40)), (4, Refused(62))]);
+    let s = body(b"roll", &Rows(&[(1, 1), (0, 2), (2, 1)]), &[&[0, 0], &[7]]);
+    told(out, b"roll", &s, &[(2, Given(2))]);
+    let s = body(b"roll", &Patterns(&[(3, 5, vec![1, 0, 2])]), &[&[0, 0], &[7]]);
+    told(out, b"roll", &s, &[(0, Given(0)), (1, Given(0)), (2, Refused(40)), (4, Refused(40)), (5, Refused(62))]);
+    let s = body(b"rap ", &Rows(&[(2, 1), (1, 2)]), &[&[1], &[]]);
+    told(out, b"rap ", &s, &[(1, Given(1)), (2, Refused(40)), (3, Refused(62))]);
+    // The frame at a pattern's wrap, at the next pattern, and in a pattern with more indices than samples.
+    let s = distances(Patterns(&[(3, 7, vec![1, 0, 2]), (2, 1, vec![0, 1]), (1, 1, vec![2])]), &[0, -1]);
+    let frames = [0, 0, 1, 3, 3, 4, 6, 6, 7];
+    for (frame, begin) in (0..).zip(frames) {
+        told(out, b"roll", &s, &[(frame, Given(begin))]);
+    }
+    let s = points(Patterns(&[(4, 9, vec![0, 0, 1, 0]), (1, 1, vec![1])]));
+    told(out, b"rap ", &s, &[(1, None), (2, Given(2)), (4, Given(2)), (5, Given(2)), (6, Given(6)), (8, Given(6)), (9, Given(9)), (10, Refused(62))]);
+    told(out, b"rap ", &points(Rows(&[(2, 0), (2, 1), (3, 0), (1, 2)])), &[(0, None), (1, None), (2, Given(2)), (3, Given(3)), (7, Given(3)), (8, Refused(62))]);
+    told(out, b"rap ", &points(Rows(&[])), &[(0, Refused(62)), (most, Refused(62))]);
+    told(out, b"roll", &distances(Patterns(&[(1, 0, vec![1])]), &[0]), &[(0, Refused(62))]);
+    // Long tables.
+    told(out, b"roll", &distances(Rows(&[(most, 1)]), &[-1]), &[(most - 1, Given(most - 2)), (most, Refused(62))]);
+    told(out, b"roll", &distances(Rows(&[(most, 1), (most, 1)]), &[3]), &[(most, Given(most - 3))]);
+    let s = points(Patterns(&[(2, most, vec![1, 0]), (1, 1, vec![1])]));
+    told(out, b"rap ", &s, &[(most - 1, Given(most - 1)), (most - 2, Given(most - 3)), (most, Given(most))]);
+    for kind in [b"roll", b"rap "] {
+        let entry: &[u8] = if kind == b"roll" { &[0, 0] } else { &[1] };
+        // 28 comes before the sgpd's, the sgpd's before 62 and 62 before the decoder's.
+        let (one, over) = (Rows(&[(1, 1)]), Patterns(&[(1, most, vec![1]), (1, 1, vec![1])]));
+        let prefixed = sgpd::payload(&mut Random::new(34), 1, kind, 0, 2, &[&(entry.len() as u32).to_be_bytes(), entry].concat());
+        let cut = sgpd::payload(&mut Random::new(35), 1, kind, entry.len() as u32, 2, entry);
+        let later = [&[2], &cut[1..]].concat();
+        for (sgpd, number) in [(&prefixed[..10], 30), (&prefixed, 33), (&cut, 35), (&later[..15], 31), (&later, 32), (&cut[..14], 32)] {
+            told(out, kind, &around(kind, &one, sgpd), &[(0, Refused(number)), (1, Refused(number))]);
+        }
+        told(out, kind, &around(kind, &over, &cut), &[(0, Refused(28))]);
+        told(out, kind, &body(kind, &over, &[entry]), &[(0, Refused(28)), (most, Refused(28))]);
+        // a fault behind all that is read
+        let whole = body(kind, &one, &[entry]);
+        for (fault, number) in film::faults().iter().zip(1..) {
+            told(out, kind, &[&whole[..], fault].concat(), &[(0, Refused(number)), (1, Refused(number))]);
+        }
+        told(out, kind, &body(kind, &one, &[&[]]), &[(0, Refused(40)), (1, Refused(62))]);
+        told(out, kind, &[], &[(0, Refused(50))]);
+    }
+    // Every refusal of a body.
+    listing::short_bodies(&mut Random::new(0xa3), |_, kind, s| {
+        if !matches!(kind, b"roll" | b"rap ") || s.len() > 100 {
+            return;
+        }
+        let covered = read(s, kind).map_or(2, |read| read.covered);
+        for frame in [covered / 2, covered].into_iter().filter(|&frame| frame <= most as u64) {
+            sample(out, 3, kind, s, frame as u32);
+        }
+    });
 }

@@ -40,12 +40,17 @@ const LISTING: [(u8, &[u8]); 2] = [
     (23, &[1, 2, 3, 4, 5, 6, 8, 20, 21, 22, 23, 24, 25, 26, 27, 28, 29, 30, 31, 32, 33, 34, 35, 40, 41, 42, 43, 44, 45, 50, 51, 52, 53, 54]),
 ];
 
-/// The refusals of a film's cue listing.
+/// The refusals of a film's cue listing, and of a decode start, which is lent no records (29) and whose types have a byte count of their own in version 0 (34).
 const FILE_LISTING: [u8; 37] =
     [1, 2, 3, 4, 5, 6, 8, 11, 20, 21, 22, 23, 24, 25, 26, 27, 28, 29, 30, 31, 32, 33, 34, 35, 40, 41, 42, 43, 44, 45, 50, 51, 52, 53, 54, 60, 61];
+const START: [u8; 28] = [1, 2, 3, 4, 5, 6, 8, 20, 21, 22, 23, 24, 25, 26, 27, 28, 30, 31, 32, 33, 35, 40, 50, 51, 52, 53, 62, NONE];
 
 /// The same of the other entries that document 02 asks for.
-const REQUESTS: [(u8, &[u8]); 1] = [(25, &FILE_LISTING)];
+const REQUESTS: [(u8, &[u8]); 3] = [
+    (25, &FILE_LISTING),
+    (26, &START),
+    (27, &START),
+];
 
 #[derive(Clone, PartialEq, Eq, PartialOrd, Ord)]
 struct Line {

@@ -27,7 +27,7 @@ fn head(flags: u8, kind: [u8; 4], count: usize) -> Vec<u8> {
     s
 }
 
-fn sbgp_body(kind: [u8; 4], rows: &[Row]) -> Vec<u8> {
+pub fn sbgp_body(kind: [u8; 4], rows: &[Row]) -> Vec<u8> {
     let mut s = head(0, kind, rows.len());
     s.extend(rows.iter().flat_map(|&(count, index)| [count, index]).flat_map(u32::to_be_bytes));
     s

@@ -32,7 +32,7 @@ fn agrees(record: &[u8]) -> bool {
         21..=22 => test_vectors_tables::agrees(record),
         23 => test_vectors_listing::agrees(record),
         24 => test_vectors_atoms::agrees(record),
-        25 => test_vectors_listing::agrees(record),
+        25..=27 => test_vectors_listing::agrees(record),
         _ => test_vectors_descriptions::agrees(record),
     }
 }
@@ -82,6 +82,7 @@ fn main() {
     replay(b"descriptions");
     replay(b"listing");
     replay(b"film_listings");
+    replay(b"starts");
     replay(b"damaged");
     replay(b"damaged_listing");
     replay(b"damaged_requests");

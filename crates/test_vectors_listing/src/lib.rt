@@ -1,4 +1,4 @@
-// Stored answers for cue listings: whether the library gives the answer that a record has.
+// Stored answers for cue listings and decode starts: whether the library gives the answer that a record has.
 
 // The byte at a place of the first `size`; 0 behind them.
 fn byte_of(listing: &[u8], size: u64, k: usize) -> u8 {
@@ -101,6 +101,23 @@ fn cue(record: &[u8], numbers: u64, bytes: u64) -> bool {
     )
 }
 
+// The sample where decoding begins for the frame that the record's argument names.
+fn start(record: &[u8]) -> bool {
+    let mut out = [0u64; 1];
+    let status = find_start(record, &mut out);
+    test_vector_lines::agrees(record, status, &[out[0]])
+}
+
+fn find_start(record: &[u8], out: &mut [u64; 1]) -> u32 {
+    let s = test_vector_lines::input(record);
+    let frame = test_vector_lines::argument_u32(record, 0);
+    if test_vector_lines::entry(record) == 26 {
+        film_starts::film_roll_start(s, frame, out)
+    } else {
+        film_starts::film_rap_start(s, frame, out)
+    }
+}
+
 // The entry that the record names, by its number in docs/VECTORS.md. Of a film the first argument is the track.
 pub fn agrees(record: &[u8]) -> bool {
     match test_vector_lines::entry(record) {
@@ -114,6 +131,8 @@ pub fn agrees(record: &[u8]) -> bool {
             test_vector_lines::argument(record, 2),
             test_vector_lines::argument(record, 3),
         ),
+        26 => start(record),
+        27 => start(record),
         _ => false,
     }
 }
