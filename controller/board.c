@@ -46,6 +46,9 @@ static uint8_t record[4096];
 static uint32_t rows[4096];
 static uint8_t listing[16384];
 
+/* What stands in an output before a table is written. */
+#define BEFORE 165
+
 /* A digit's value; 16 for any other character. */
 static unsigned digit(char c) { return c >= '0' && c <= '9' ? (unsigned)(c - '0') : c >= 'a' && c <= 'f' ? (unsigned)(c - 'a' + 10) : 16; }
 
@@ -65,7 +68,7 @@ static int agrees(const uint8_t *r, unsigned length) {
     const uint8_t *told = s + len, *numbers = told + 2;
     unsigned count = 0, status = 0, lent = 0;
     uint32_t k = (uint32_t)argument[0];
-    if (r[0] == 7 || r[0] == 8)
+    if (r[0] == 7 || r[0] == 8 || (r[0] >= 28 && r[0] <= 31))
         for (lent = 0; lent < len / 4; lent++) rows[lent] = (uint32_t)big(s + 4 * lent, 4);
     switch (r[0]) {
     case 1: status = film_read_atom_header(s, len, argument[0], out); count = 5; break;
@@ -103,14 +106,25 @@ static int agrees(const uint8_t *r, unsigned length) {
         break;
     case 26: status = film_roll_start(s, len, k, out); count = 1; break;
     case 27: status = film_rap_start(s, len, k, out); count = 1; break;
+    case 28: status = film_quote_sbgp(rows, lent, out); count = 1; break;
+    case 29: status = film_quote_csgp(rows, lent, out); count = 1; break;
+    case 30:
+    case 31:
+        if (argument[2] > 256) return 0;
+        for (unsigned i = 0; i < 256; i++) listing[i] = BEFORE;
+        status = (r[0] == 30 ? film_write_sbgp : film_write_csgp)(k, rows, lent, argument[1], listing, argument[2], out);
+        for (unsigned i = status == 0 ? out[0] : 0; i < 256; i++)
+            if (listing[i] != BEFORE) return 0;
+        count = 1;
+        break;
     default: return 0;
     }
     if (told[0] != status || numbers + 8 * told[1] != r + length) return 0;
     if (status != 0) return told[1] == 0;
     for (unsigned i = 0; i < count; i++)
         if (big(numbers + 8 * i, 8) != out[i]) return 0;
-    if (r[0] == 23 || r[0] == 25) { /* the rows' numbers, then the listing's bytes, eight to a number, the last one filled up with zeros */
-        uint64_t bytes = out[0], pairs = out[1];
+    if (r[0] == 23 || r[0] == 25 || r[0] == 30 || r[0] == 31) { /* a listing's rows, then the written bytes, eight to a number, the last one filled up with zeros */
+        uint64_t bytes = out[0], pairs = count == 2 ? out[1] : 0;
         if (told[1] != count + 2 * pairs + (bytes + 7) / 8) return 0;
         for (unsigned i = 0; i < 2 * pairs; i++)
             if (big(numbers + 8 * (count + i), 8) != rows[i]) return 0;
@@ -147,7 +161,7 @@ static void replay(const char *name, const char *from, const char *to, int expec
     text(same == (expected ? lines : 0) ? "\n" : "  WRONG\n");
 }
 
-extern const char film_listings[], film_listings_end[], starts[], starts_end[], damaged_requests[], damaged_requests_end[];
+extern const char film_listings[], film_listings_end[], starts[], starts_end[], writing[], writing_end[], damaged_requests[], damaged_requests_end[];
 extern const char films[], films_end[], listings[], listings_end[], damaged_listing[], damaged_listing_end[];
 extern const char atoms[], atoms_end[], tables[], tables_end[], descriptions[], descriptions_end[], document[], document_end[], damaged[], damaged_end[];
 
@@ -404,6 +418,7 @@ void reset(void) {
     replay("damaged_listing", damaged_listing, damaged_listing_end, 0);
     replay("film_listings", film_listings, film_listings_end, 1);
     replay("starts", starts, starts_end, 1);
+    replay("writing", writing, writing_end, 1);
     replay("damaged_requests", damaged_requests, damaged_requests_end, 0);
     replay("tables", tables, tables_end, 1);
     replay("document", document, document_end, 1);

@@ -25,7 +25,7 @@ const MIB: usize = 1 << 20;
 /// The files of stored vectors that hold right answers, by the file of their damaged lines.
 const FILES: [&str; 4] = ["atoms", "tables", "document", "descriptions"];
 const LISTINGS: [&str; 2] = ["listing", "films"];
-const REQUESTS: [&str; 2] = ["film_listings", "starts"];
+const REQUESTS: [&str; 3] = ["film_listings", "starts", "writing"];
 
 fn vectors_of(name: &str) -> vectors::Vectors {
     let mut vectors = vectors::Vectors::default();
@@ -38,6 +38,7 @@ fn vectors_of(name: &str) -> vectors::Vectors {
         "films" => &[film::vectors],
         "film_listings" => &[film::listing_vectors],
         "starts" => &[starts::vectors],
+        "writing" => &[writing::vectors],
         _ => panic!("vectors of what?"),
     };
     parts.iter().for_each(|part| part(&mut vectors));

@@ -3,6 +3,7 @@
 use super::ffi::{self, Answer};
 use super::random::Random;
 use super::tally::Tally;
+use super::vectors::{Vectors, eights};
 use crate::sample_groups::{self, SampleToGroup};
 use crate::standalone::Result;
 
@@ -201,4 +202,62 @@ pub fn run(tally: &mut Tally) {
         let rows: Vec<Row> = (0..n).map(|_| (random.below(20) as u32, random.below(300) as u32)).collect();
         both(tally, &mut random, kind, &rows);
     }
+}
+
+/// The stored lines of one list of rows: both quotes, and writes with the quoted length; with `others` also other lengths and outputs. `behind` are further bytes of
+/// the run.
+fn sample(out: &mut Vectors, kind: [u8; 4], rows: &[Row], behind: &[u8], others: bool) {
+    let mut run: Vec<u8> = rows.iter().flat_map(|&(count, index)| [count, index]).flat_map(u32::to_be_bytes).collect();
+    run.extend(behind);
+    let csgp = remaining(rows).map(|rows| csgp_body(kind, &rows));
+    for (quote, write, body) in [(28, 30, Some(sbgp_body(kind, rows))), (29, 31, csgp)] {
+        let length = body.as_ref().map(Vec::len);
+        out.add(quote, &[], &run, length.map_or(Answer::Refused(28), |n| Answer::Given(vec![n as u64])));
+        let n = length.unwrap_or(13);
+        let mut lent = vec![(n, n + 5)];
+        if others {
+            lent.extend([(n, n), (n, n - 1), (n, 0), (n + 1, n + 1), (n - 1, n), (n + 8, 0), (0, 0), (usize::MAX, 3)]);
+        }
+        for (quoted, room) in lent {
+            let answer = match &body {
+                None => Answer::Refused(28),
+                Some(body) if quoted != body.len() => Answer::Refused(63),
+                Some(body) if room < quoted => Answer::Refused(64),
+                Some(body) => Answer::Given([body.len() as u64].into_iter().chain(eights(body)).collect()),
+            };
+            out.add(write, &[u32::from_be_bytes(kind) as u64, quoted as u64, room as u64], &run, answer);
+        }
+    }
+}
+
+pub fn vectors(out: &mut Vectors) {
+    let (kind, most) = (*b"roll", u32::MAX);
+    // First rows of which some are dropped and joined; then none, and rows of count 0 only.
+    sample(out, kind, &[(2, 1), (0, 9), (3, 1), (1, 0), (7, 300)], &[], true);
+    sample(out, kind, &[], &[], true);
+    sample(out, *b"rap ", &[(0, 5)], &[], true);
+    sample(out, kind, &[(0, most); 3], &[], false);
+    // Too large a joined count, before any disagreement of lengths; the largest that is none.
+    sample(out, kind, &[(most, 1), (1, 1)], &[], true);
+    sample(out, kind, &[(1, 2), (most - 1, 1), (0, 7), (2, 1), (1, 3)], &[], true);
+    sample(out, kind, &[(most - 1, 1), (0, 7), (1, 1)], &[], false);
+    sample(out, kind, &[(most, 1), (1, 2), (most, 1)], &[], false);
+    // The seams of the widths, of counts, of counts that are joined, and of indices; one row has a half byte behind it in some widths.
+    for n in [15, 16, 255, 256, 65_535, 65_536] {
+        sample(out, kind, &[(n, 1)], &[], false);
+        sample(out, kind, &[(n - 8, 1), (8, 1), (3, 2)], &[], false);
+        sample(out, kind, &[(1, n)], &[], false);
+        sample(out, kind, &[(n, n), (1, 0)], &[], false);
+    }
+    sample(out, kind, &[(most, most)], &[], false);
+    // Bodies with a half byte at the end and without, like neighbours at either end, and a type of any bytes.
+    for n in 1..9 {
+        let rows: Vec<Row> = (0..n).map(|k| (1 + k, k % 3)).collect();
+        sample(out, kind, &rows, &[], n == 3);
+    }
+    sample(out, [0; 4], &[(1, 4), (2, 4), (3, 5), (1, 4), (4, 4)], &[], false);
+    sample(out, [255; 4], &[(0, 3), (1, 3), (0, 2), (1, 3), (0, 3)], &[], false);
+    // A last number without a partner is no row, and is not joined.
+    sample(out, kind, &[(4, 1)], &[0, 0, 0, 9], false);
+    sample(out, kind, &[], &[255; 4], false);
 }

@@ -33,6 +33,7 @@ fn agrees(record: &[u8]) -> bool {
         23 => test_vectors_listing::agrees(record),
         24 => test_vectors_atoms::agrees(record),
         25..=27 => test_vectors_listing::agrees(record),
+        28..=31 => test_vectors_writing::agrees(record),
         _ => test_vectors_descriptions::agrees(record),
     }
 }
@@ -83,6 +84,7 @@ fn main() {
     replay(b"listing");
     replay(b"film_listings");
     replay(b"starts");
+    replay(b"writing");
     replay(b"damaged");
     replay(b"damaged_listing");
     replay(b"damaged_requests");

@@ -12,7 +12,7 @@ fn byte_of(listing: &[u8], size: u64, k: usize) -> u8 {
 }
 
 // The bytes are the first `size` of the listing, filled up with zeros to whole numbers.
-fn same_bytes(seen: &[u8], listing: &[u8], size: u64) -> bool {
+pub fn same_bytes(seen: &[u8], listing: &[u8], size: u64) -> bool {
     let n = seen.len() as u64;
     if n < size {
         return false;

@@ -61,7 +61,7 @@ fn parse(record: &[u8], rows: &mut [u32], out: &mut [u64; 3]) -> u32 {
 }
 
 // The bytes as numbers of a run.
-fn load(s: &[u8], rows: &mut [u32]) {
+pub fn load(s: &[u8], rows: &mut [u32]) {
     let mut k: usize = 0;
     while k < rows.len() {
         if s.len() / 4 <= k {
@@ -73,7 +73,7 @@ fn load(s: &[u8], rows: &mut [u32]) {
 }
 
 // The first n numbers, or all.
-fn front(rows: &[u32], n: usize) -> &[u32] {
+pub fn front(rows: &[u32], n: usize) -> &[u32] {
     if rows.len() < n {
         return rows;
     }
