@@ -117,6 +117,9 @@ static int agrees(const uint8_t *r, unsigned length) {
             if (listing[i] != BEFORE) return 0;
         count = 1;
         break;
+    case 32: status = film_is_sync_sample(s, len, k, out); count = 1; break;
+    case 33: status = film_last_sync_sample(s, len, k, out); count = 1; break;
+    case 34: status = film_sample_dependency(s, len, k, out); count = 4; break;
     default: return 0;
     }
     if (told[0] != status || numbers + 8 * told[1] != r + length) return 0;
@@ -161,7 +164,7 @@ static void replay(const char *name, const char *from, const char *to, int expec
     text(same == (expected ? lines : 0) ? "\n" : "  WRONG\n");
 }
 
-extern const char film_listings[], film_listings_end[], starts[], starts_end[], writing[], writing_end[], damaged_requests[], damaged_requests_end[];
+extern const char film_listings[], film_listings_end[], starts[], starts_end[], writing[], writing_end[], sync[], sync_end[], damaged_requests[], damaged_requests_end[];
 extern const char films[], films_end[], listings[], listings_end[], damaged_listing[], damaged_listing_end[];
 extern const char atoms[], atoms_end[], tables[], tables_end[], descriptions[], descriptions_end[], document[], document_end[], damaged[], damaged_end[];
 
@@ -419,6 +422,7 @@ void reset(void) {
     replay("film_listings", film_listings, film_listings_end, 1);
     replay("starts", starts, starts_end, 1);
     replay("writing", writing, writing_end, 1);
+    replay("sync", sync, sync_end, 1);
     replay("damaged_requests", damaged_requests, damaged_requests_end, 0);
     replay("tables", tables, tables_end, 1);
     replay("document", document, document_end, 1);

@@ -25,7 +25,7 @@ const MIB: usize = 1 << 20;
 /// The files of stored vectors that hold right answers, by the file of their damaged lines.
 const FILES: [&str; 4] = ["atoms", "tables", "document", "descriptions"];
 const LISTINGS: [&str; 2] = ["listing", "films"];
-const REQUESTS: [&str; 3] = ["film_listings", "starts", "writing"];
+const REQUESTS: [&str; 4] = ["film_listings", "starts", "writing", "sync"];
 
 fn vectors_of(name: &str) -> vectors::Vectors {
     let mut vectors = vectors::Vectors::default();
@@ -39,6 +39,7 @@ fn vectors_of(name: &str) -> vectors::Vectors {
         "film_listings" => &[film::listing_vectors],
         "starts" => &[starts::vectors],
         "writing" => &[writing::vectors],
+        "sync" => &[sync::vectors],
         _ => panic!("vectors of what?"),
     };
     parts.iter().for_each(|part| part(&mut vectors));

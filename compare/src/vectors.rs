@@ -46,7 +46,7 @@ const FILE_LISTING: [u8; 37] =
 const START: [u8; 28] = [1, 2, 3, 4, 5, 6, 8, 20, 21, 22, 23, 24, 25, 26, 27, 28, 30, 31, 32, 33, 35, 40, 50, 51, 52, 53, 62, NONE];
 
 /// The same of the other entries that document 02 asks for.
-const REQUESTS: [(u8, &[u8]); 7] = [
+const REQUESTS: [(u8, &[u8]); 10] = [
     (25, &FILE_LISTING),
     (26, &START),
     (27, &START),
@@ -54,6 +54,9 @@ const REQUESTS: [(u8, &[u8]); 7] = [
     (29, &[28]),
     (30, &[63, 64]),
     (31, &[28, 63, 64]),
+    (32, &[65, 66]),
+    (33, &[65, 66, NONE]),
+    (34, &[65, NONE]),
 ];
 
 #[derive(Clone, PartialEq, Eq, PartialOrd, Ord)]

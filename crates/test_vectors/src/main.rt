@@ -34,6 +34,7 @@ fn agrees(record: &[u8]) -> bool {
         24 => test_vectors_atoms::agrees(record),
         25..=27 => test_vectors_listing::agrees(record),
         28..=31 => test_vectors_writing::agrees(record),
+        32..=34 => test_vectors_tables::agrees(record),
         _ => test_vectors_descriptions::agrees(record),
     }
 }
@@ -85,6 +86,7 @@ fn main() {
     replay(b"film_listings");
     replay(b"starts");
     replay(b"writing");
+    replay(b"sync");
     replay(b"damaged");
     replay(b"damaged_listing");
     replay(b"damaged_requests");

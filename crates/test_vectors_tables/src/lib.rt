@@ -1,4 +1,4 @@
-// Stored answers of the Rust for sample tables and lookups: whether the library gives the answer that a record has.
+// Stored answers for sample tables, lookups, and sync and dependency tables: whether the library gives the answer that a record has.
 
 // The record has this status and, with 0, the table's head and then its rows.
 fn same_table(record: &[u8], status: u32, head: &[u64], count: u64, rows: &[u32]) -> bool {
@@ -118,6 +118,34 @@ fn count_rows(record: &[u8], out: &mut [u64; 1]) -> u32 {
     }
 }
 
+// Sync samples: the record's input is an stss.
+fn sync(record: &[u8]) -> bool {
+    let mut out = [0u64; 1];
+    let status = find_sync(record, &mut out);
+    test_vector_lines::agrees(record, status, &[out[0]])
+}
+
+fn find_sync(record: &[u8], out: &mut [u64; 1]) -> u32 {
+    let s = test_vector_lines::input(record);
+    let sample = test_vector_lines::argument_u32(record, 0);
+    if test_vector_lines::entry(record) == 32 {
+        film_sync::film_is_sync_sample(s, sample, out)
+    } else {
+        film_sync::film_last_sync_sample(s, sample, out)
+    }
+}
+
+// The record's input is an sdtp.
+fn dependency(record: &[u8]) -> bool {
+    let mut out = [0u64; 4];
+    let status = film_sync::film_sample_dependency(
+        test_vector_lines::input(record),
+        test_vector_lines::argument_u32(record, 0),
+        &mut out,
+    );
+    test_vector_lines::agrees(record, status, &[out[0], out[1], out[2], out[3]])
+}
+
 // The entry that the record names, by its number in docs/VECTORS.md.
 pub fn agrees(record: &[u8]) -> bool {
     match test_vector_lines::entry(record) {
@@ -127,6 +155,9 @@ pub fn agrees(record: &[u8]) -> bool {
         8 => covered(record),
         21 => needed(record),
         22 => needed(record),
+        32 => sync(record),
+        33 => sync(record),
+        34 => dependency(record),
         _ => false,
     }
 }
