@@ -65,8 +65,9 @@ pub fn run(bench: &mut Bench) {
 /// Where decoding begins for the last frame of a roll group, as its sample counts grow.
 pub fn samples(bench: &mut Bench) {
     let sgpd = sgpd_of(b"roll", &[vec![0, 0], vec![0, 0]]);
-    for shape in ["roll_start, an sbgp row", "roll_start, csgp [1]", "roll_start, csgp [1,2]"] {
-        for samples in [1, 1000, 1_000_000, u32::MAX] {
+    for shape in ["roll_start, an sbgp row", "roll_start, csgp [1]", "roll_start, csgp [1,2]", "roll_start, csgp [1,2], whole periods"] {
+        for count in [1, 1000, 1_000_000, u32::MAX] {
+            let samples = if shape.ends_with("periods") { count.min(u32::MAX / 2) * 2 } else { count };
             let table = match shape {
                 "roll_start, an sbgp row" => {
                     let row = [[0; 4], *b"roll", 1u32.to_be_bytes(), samples.to_be_bytes(), 1u32.to_be_bytes()].concat();

@@ -65,6 +65,10 @@ module _ (limit : ℕ) (l : List ℕ) where
           finds = p .finds ∙ rw (drop-cons l k 0 h, add-one) refl;
         }
 
+  -- by the smallest number that may follow
+  pub passed-before : {k last found least : ℕ} → Passed limit l k last found → least ≡ last + 1 → Passed limit l k (least - 1) found
+  passed-before {k} {last} {found} {least} p e = let before : least - 1 ≡ last = omega arith in rw before p
+
   -- all of them
   pub all-passed : {k last found : ℕ} → Passed limit l k last found → k ≡ length l → (rising 0 l ≡ true) × (lastUpTo limit l ≡ found)
   unfolding rising lastFrom

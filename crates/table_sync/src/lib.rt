@@ -61,15 +61,16 @@ fn last_number(s: &[u8], count: u32, limit: u64) -> UpTo
     ensures { λ r. ⌜ toldNumber r ≡ andThen (stss (now (s .entry))) (λ numbers. given (lastUpTo limit numbers)) ⌝ }
 {
     let mut k: u32 = 0;
-    let mut last: u32 = 0;
+    // The smallest number that may follow.
+    let mut least: u64 = 1;
     let mut found: u32 = 0;
     while k < count {
         let number = read_u32(s, 8 + 4 * (k as usize));
-        if number <= last {
+        if (number as u64) < least {
             return UpTo::Refused(66);
         }
         found = later(found, number, limit);
-        last = number;
+        least = number as u64 + 1;
         k = k + 1;
     }
     UpTo::Number(found)

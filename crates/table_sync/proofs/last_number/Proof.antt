@@ -1,5 +1,5 @@
 -- The loop's invariant: what the numbers so far tell of all of them. The measure is how many are left.
-use Rattle.table_sync.proofs.Cases.{Passed, none-passed, one-falls, one-passed, all-passed, stss-falls, stss-rises, number-given, number-refused}
+use Rattle.table_sync.proofs.Cases.{Passed, none-passed, one-falls, one-passed, passed-before, all-passed, stss-falls, stss-rises, number-given, number-refused}
 use Rattle.table_sync.proofs.Records.{record-count, record-at}
 use Rattle.table_sync.specs.Sync.{numbersIn}
 use Rattle.base_fields.specs.Number.{beAt}
@@ -12,10 +12,10 @@ use Rattle.table_sync.proofs.last_number.Statement.{statement}
 use Rattle.table_sync.proofs.last_number.Tie as tie
 
 abbrev Inv-loop : tie.InvT-loop
-Inv-loop s count limit k₀ last₀ found₀ k last found = (k ≤ count) × Passed limit (numbersIn s) k last found
+Inv-loop s count limit k₀ least₀ found₀ k least found = (k ≤ count) × (1 ≤ least) × Passed limit (numbersIn s) k (least - 1) found
 
 abbrev μ-loop : tie.MeasureT-loop
-μ-loop s count limit k₀ last₀ found₀ k last found = count - k
+μ-loop s count limit k₀ least₀ found₀ k least found = count - k
 
 -- a number of the table
 number : (c : tie.After-read-u32 Inv-loop μ-loop)
@@ -34,7 +34,7 @@ there : (c : tie.At-loop Inv-loop μ-loop) → let s = c .before .before .args .
 there c = omega (arith, c .before .before .pre .0, c .before .before .pre .2)
 
 loop-holds : tie.Need-loop-holds Inv-loop μ-loop
-loop-holds c = (omega arith, none-passed _ _)
+loop-holds c = (omega arith, omega arith, none-passed _ _)
 
 cast-read-u32 : tie.Need-cast-read-u32 Inv-loop μ-loop
 cast-read-u32 c = search needs
@@ -48,6 +48,9 @@ add-read-u32 c = omega (arith, c .before .before .before .pre .0, c .before .bef
 read-u32-requires : tie.Need-read-u32-requires Inv-loop μ-loop
 read-u32-requires c κs = omega (arith, c .before .before .before .pre .0, c .loop-test .taken)
 
+cast-if1 : tie.Need-cast-if1 Inv-loop μ-loop
+cast-if1 c = search needs
+
 returns : tie.Need-returns Inv-loop μ-loop
 returns c = let read = c .before in
     let loop = read .before .before in
@@ -55,10 +58,16 @@ returns c = let read = c .before in
     let start = loop .before .before in
     number-refused s (start .args .limit)
     (stss-falls s (start .pre .1) (there loop)
-    (one-falls (start .args .limit) _ (loop .loop .inv .1) (omega (arith, numbers loop, read .before .loop-test .taken)) (omega (arith, number read, c .if1 .taken))))
+    (one-falls (start .args .limit) _ (loop .loop .inv .2) (omega (arith, numbers loop, read .before .loop-test .taken)) (omega (arith, number read, c .if1 .taken))))
 
 later-requires : tie.Need-later-requires Inv-loop μ-loop
 later-requires c κs = search needs
+
+cast-least : tie.Need-cast-least Inv-loop μ-loop
+cast-least c = search needs
+
+add-least : tie.Need-add-least Inv-loop μ-loop
+add-least c = search needs
 
 add-k : tie.Need-add-k Inv-loop μ-loop
 add-k c = search needs
@@ -70,14 +79,14 @@ loop-again : tie.Need-loop-again Inv-loop μ-loop
 loop-again c = let read = c .before .before in
     let loop = read .before .before in
     let start = loop .before .before in
-    let next = one-passed (start .args .limit) _ (loop .loop .inv .1) (omega (arith, numbers loop, read .before .loop-test .taken)) (omega (arith, number read, c .before .if1 .left)) in
-    (omega (arith, read .before .loop-test .taken), rw (c .later .ensures) (rw (number read) at next))
+    let next = one-passed (start .args .limit) _ (loop .loop .inv .2) (omega (arith, numbers loop, read .before .loop-test .taken)) (omega (arith, number read, c .before .if1 .left)) in
+    (omega (arith, read .before .loop-test .taken), omega arith, passed-before (start .args .limit) _ {last = read .read-u32 .result} (rw (c .later .ensures) (rw (number read) at next)) (omega arith))
 
 returns-2 : tie.Need-returns-2 Inv-loop μ-loop
 returns-2 c = let loop = c .before in
     let start = loop .before .before in
     let s = start .args .s .now in
-    let all = all-passed (start .args .limit) (numbersIn s) (loop .loop .inv .1) (omega (arith, numbers loop, c .loop-test .left, loop .loop .inv .0)) in
+    let all = all-passed (start .args .limit) (numbersIn s) (loop .loop .inv .2) (omega (arith, numbers loop, c .loop-test .left, loop .loop .inv .0)) in
     number-given s (start .args .limit) (stss-rises s (start .pre .1) (there loop) (all .0)) (all .1)
 
 pub last-number-spec : {M : Type 1} → statement M
@@ -91,8 +100,11 @@ last-number-spec =
     mul-read-u32
     add-read-u32
     read-u32-requires
+    cast-if1
     returns
     later-requires
+    cast-least
+    add-least
     add-k
     loop-less
     loop-again
