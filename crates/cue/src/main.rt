@@ -1,27 +1,13 @@
 // Prints the cue listing of an stbl's body (document 01): four type bytes and the body on standard input, one line of lower-case hexadecimal on
 // standard output, or why there is none.
+use cue_print::print_listing;
+use cue_print::print_refused;
 use libc::STDIN_FILENO;
 use libc::STDOUT_FILENO;
 use listing_cue::CueListing;
 
 // Four type bytes, and as much of a body as is held.
 const HELD: usize = 16388;
-
-// The digits of each byte.
-fn print_listing(listing: &[u8]) {
-    let mut i = 0;
-    while i < listing.len() {
-        io::print_hex(STDOUT_FILENO, listing[i] as u64, 2);
-        i = i + 1;
-    }
-    io::write_all(STDOUT_FILENO, b"\n");
-}
-
-fn print_refused(n: u32) {
-    io::write_all(STDOUT_FILENO, b"refused ");
-    io::print_decimal(STDOUT_FILENO, n as u64);
-    io::write_all(STDOUT_FILENO, b"\n");
-}
 
 // The listing of a body, by what is lent for its rows and its bytes.
 fn print_cue(body: &[u8], grouping_type: u32, rows: &mut [u32], listing: &mut [u8]) {

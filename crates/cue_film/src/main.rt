@@ -7,25 +7,11 @@ mod words;
 use arguments::ReadTrack;
 use arguments::is_words;
 use arguments::read_track;
+use cue_print::print_listing;
+use cue_print::print_refused;
 use libc::STDOUT_FILENO;
 use listing_cue::CueListing;
 use words::print_words;
-
-// The digits of each byte.
-fn print_listing(listing: &[u8]) {
-    let mut i = 0;
-    while i < listing.len() {
-        io::print_hex(STDOUT_FILENO, listing[i] as u64, 2);
-        i = i + 1;
-    }
-    io::write_all(STDOUT_FILENO, b"\n");
-}
-
-fn print_refused(n: u32) {
-    io::write_all(STDOUT_FILENO, b"refused ");
-    io::print_decimal(STDOUT_FILENO, n as u64);
-    io::write_all(STDOUT_FILENO, b"\n");
-}
 
 fn print_told(listing: &[u8], in_words: bool) {
     if in_words {

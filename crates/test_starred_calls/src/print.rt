@@ -280,16 +280,8 @@ fn listing(l: ListingAnswer) {
     numbers(&rows);
     word(b"; ");
     let bytes = l.listing;
-    hex(&bytes);
+    cue_print::print_bytes(&bytes);
     word(b"\n");
-}
-
-fn hex(bytes: &[u8]) {
-    let mut i = 0;
-    while i < bytes.len() {
-        io::print_hex(STDOUT_FILENO, bytes[i] as u64, 2);
-        i = i + 1;
-    }
 }
 
 pub fn print_answers(answers: StarredAnswers) {
