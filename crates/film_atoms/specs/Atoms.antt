@@ -1,11 +1,10 @@
--- The numbers of a header, a child and a body, in the order in which the C interface hands them out.
+-- The numbers of a header and a child, in the order in which the C interface hands them out.
 use Prim.Native.Nat.{ℕ}
 use mathlib.Core.List.{List, [], _∷_, _++_}
 use mathlib.Core.Option.{Option, none, some}
 use lib.Dec.{eqb}
 use Rattle.base_fields.specs.Answer.{choose}
 use Rattle.atom_tree.specs.Atom.{Known, Header, Child}
-use Rattle.base_fields.specs.Span.{Span}
 
 -- 1 where the number is absent
 abbrev pub absent : Known → ℕ
@@ -23,9 +22,6 @@ headerNumbers h = h .type ∷ absent (h .size) ∷ orZero (h .size) ∷ h .heade
 -- the header's numbers and the place of the next child
 abbrev pub childNumbers : Child → List ℕ
 childNumbers c = c .next ∷ headerNumbers (c .head)
-
-abbrev pub bodyNumbers : Span → List ℕ
-bodyNumbers b = b .place ∷ b .size ∷ []
 
 -- the end of a parent: 0 for the first number says that it is not known
 abbrev pub endFrom : ℕ → ℕ → Known

@@ -1,13 +1,10 @@
-// The C interface: headers, children and bodies of atoms, and the stbl of a track.
+// The C interface: headers, children and bodies of atoms.
 ghost use mathlib.Core.Path.{_≡_};
 ghost use mathlib.Core.Option.{none, some};
-ghost use Rattle.atom_path.specs.Path.{stblAt};
-ghost use Rattle.atom_path.specs.Told.{toldBody};
 ghost use Rattle.atom_tree.specs.Atom.{headerAt, childAt, bodyAt};
 ghost use Rattle.atom_tree.specs.Told.{sizeOf, parentEnd, toldHeader, toldChild, toldPayload};
-ghost use Rattle.film_status.specs.Status.{Returns};
-ghost use Rattle.film_atoms.specs.Atoms.{absent, orZero, endFrom, headerNumbers, childNumbers, bodyNumbers};
-use atom_path::FoundBody;
+ghost use Rattle.film_status.specs.Status.{Returns, bodyNumbers};
+ghost use Rattle.film_atoms.specs.Atoms.{absent, orZero, endFrom, headerNumbers, childNumbers};
 use atom_tree::NextChild;
 use atom_tree::ParentEnd;
 use atom_tree::ReadHeader;
@@ -138,19 +135,4 @@ pub extern "C" fn film_read_payload_bounded(
     ensures { λ r. ⌜ Returns (bodyAt (now (s .entry)) at (some «max_remaining»)) bodyNumbers (now (out .entry)) (now (out .exit)) r ⌝ }
 {
     put_payload(atom_tree::read_payload_bounded(s, at, max_remaining), out)
-}
-
-// out: place and length of the body of the stbl of a track, counted from 0.
-#[no_mangle]
-pub extern "C" fn film_find_stbl(s: &[u8], track: u32, out: &mut [u64; 2]) -> u32
-    ensures { λ r. ⌜ Returns (stblAt (now (s .entry)) track) bodyNumbers (now (out .entry)) (now (out .exit)) r ⌝ }
-{
-    match atom_path::find_stbl(s, track) {
-        FoundBody::Body(body) => {
-            out[0] = body.place;
-            out[1] = body.size;
-            0
-        }
-        FoundBody::Refused(n) => n,
-    }
 }

@@ -1,11 +1,29 @@
-// The C interface: the cue listing of an stbl's body, and that of a track of a film.
+// The C interface: the stbl of a track of a film, the cue listing of an stbl's body, and that of a track.
+ghost use Rattle.atom_path.specs.Path.{stblAt};
+ghost use Rattle.atom_path.specs.Told.{toldBody};
 ghost use Rattle.listing_spec.specs.Cue.{cueCall};
 ghost use Rattle.listing_cue.specs.Told.{toldCue};
 ghost use Rattle.listing_file.specs.File.{fileCall};
-ghost use Rattle.film_status.specs.Status.{Returns};
+ghost use Rattle.film_status.specs.Status.{Returns, bodyNumbers};
 ghost use Rattle.film_listing.specs.Listing.{lengthNumbers, Lists};
+use atom_path::FoundBody;
 use base_ids::RowNumber;
 use listing_cue::CueListing;
+
+// out: place and length of the body of the stbl of a track, counted from 0.
+#[no_mangle]
+pub extern "C" fn film_find_stbl(s: &[u8], track: u32, out: &mut [u64; 2]) -> u32
+    ensures { λ r. ⌜ Returns (stblAt (now (s .entry)) track) bodyNumbers (now (out .entry)) (now (out .exit)) r ⌝ }
+{
+    match atom_path::find_stbl(s, track) {
+        FoundBody::Body(body) => {
+            out[0] = body.place;
+            out[1] = body.size;
+            0
+        }
+        FoundBody::Refused(n) => n,
+    }
+}
 
 // Hands the lengths of a listing out.
 fn put_lengths(listed: CueListing, out: &mut [u64; 2]) -> u32

@@ -6,6 +6,7 @@ use mathlib.Core.Bool.{Bool, true, false}
 use mathlib.Core.List.{List, [], _∷_}
 use lib.Seq.{sets}
 use Rattle.base_fields.specs.Answer.{Answer, given, none, refused}
+use Rattle.base_fields.specs.Span.{Span}
 
 abbrev pub statusOf : {A : Type 0} → Answer A → ℕ
 statusOf (given a) = 0
@@ -24,6 +25,10 @@ pub record Returns {A N : Type 0} (told : Answer A) (numbers : A → List N) (be
 
 abbrev pub oneNumber : ℕ → List ℕ
 oneNumber n = n ∷ []
+
+-- place and length of a body
+abbrev pub bodyNumbers : Span → List ℕ
+bodyNumbers b = b .place ∷ b .size ∷ []
 
 abbrev pub bit : Bool → ℕ
 bit true = 1

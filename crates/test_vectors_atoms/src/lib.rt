@@ -1,4 +1,4 @@
-// Stored answers of the Rust for headers, children, bodies and the stbl of a track: whether the library gives the answer that a record has.
+// Stored answers of the Rust for headers, children and bodies: whether the library gives the answer that a record has.
 
 fn header(record: &[u8]) -> bool {
     let mut out = [0u64; 5];
@@ -47,16 +47,6 @@ fn bounded(record: &[u8]) -> bool {
     test_vector_lines::agrees(record, status, &[out[0], out[1]])
 }
 
-fn stbl(record: &[u8]) -> bool {
-    let mut out = [0u64; 2];
-    let status = film_atoms::film_find_stbl(
-        test_vector_lines::input(record),
-        test_vector_lines::argument_u32(record, 0),
-        &mut out,
-    );
-    test_vector_lines::agrees(record, status, &[out[0], out[1]])
-}
-
 // The entry that the record names, by its number in docs/VECTORS.md.
 pub fn agrees(record: &[u8]) -> bool {
     match test_vector_lines::entry(record) {
@@ -64,7 +54,6 @@ pub fn agrees(record: &[u8]) -> bool {
         2 => child(record),
         3 => payload(record),
         4 => bounded(record),
-        24 => stbl(record),
         _ => false,
     }
 }

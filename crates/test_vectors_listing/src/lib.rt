@@ -1,4 +1,4 @@
-// Stored answers for cue listings and decode starts: whether the library gives the answer that a record has.
+// Stored answers for the stbl of a track, cue listings and decode starts: whether the library gives the answer that a record has.
 
 // The byte at a place of the first `size`; 0 behind them.
 fn byte_of(listing: &[u8], size: u64, k: usize) -> u8 {
@@ -101,6 +101,16 @@ fn cue(record: &[u8], numbers: u64, bytes: u64) -> bool {
     )
 }
 
+fn stbl(record: &[u8]) -> bool {
+    let mut out = [0u64; 2];
+    let status = film_listing::film_find_stbl(
+        test_vector_lines::input(record),
+        test_vector_lines::argument_u32(record, 0),
+        &mut out,
+    );
+    test_vector_lines::agrees(record, status, &[out[0], out[1]])
+}
+
 // The sample where decoding begins for the frame that the record's argument names.
 fn start(record: &[u8]) -> bool {
     let mut out = [0u64; 1];
@@ -126,6 +136,7 @@ pub fn agrees(record: &[u8]) -> bool {
             test_vector_lines::argument(record, 1),
             test_vector_lines::argument(record, 2),
         ),
+        24 => stbl(record),
         25 => cue(
             record,
             test_vector_lines::argument(record, 2),

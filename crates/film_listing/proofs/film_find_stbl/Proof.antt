@@ -2,8 +2,8 @@
 use Rattle.atom_path.specs.Told.{toldBody}
 use Rattle.film_status.proofs.Returned.{returned}
 use borrow.Author.Needs.{needs}
-use Rattle.film_atoms.proofs.film_find_stbl.Statement.{statement}
-use Rattle.film_atoms.proofs.film_find_stbl.Tie as tie
+use Rattle.film_listing.proofs.film_find_stbl.Statement.{statement}
+use Rattle.film_listing.proofs.film_find_stbl.Tie as tie
 
 find-stbl-requires : tie.Need-find-stbl-requires
 find-stbl-requires c κs = search needs
