@@ -89,10 +89,13 @@ pub fn walk(s: &[u8]) -> u32 {
     count
 }
 
+pub fn alike_into(kind: u32, a: &[u8], b: &[u8], out: &mut [u64; 1]) -> u32 {
+    black_box(unsafe { film_decode_alike(kind, a.as_ptr(), a.len(), b.as_ptr(), b.len(), out.as_mut_ptr()) })
+}
+
 pub fn alike(kind: &[u8; 4], a: &[u8], b: &[u8]) -> (u32, u64) {
     let mut out = [0];
-    let status = unsafe { film_decode_alike(u32::from_be_bytes(*kind), a.as_ptr(), a.len(), b.as_ptr(), b.len(), out.as_mut_ptr()) };
-    (status, black_box(out[0]))
+    (alike_into(u32::from_be_bytes(*kind), a, b, &mut out), black_box(out[0]))
 }
 
 pub fn described(film: &[u8], fragment: &[u8], raw: u32) -> (u32, [u64; 3]) {

@@ -176,50 +176,63 @@ impl Bench {
         self.by_number("alst_piece", alst(50, 100), film_alst_piece, decode_alst, |a| &a.pieces);
     }
 
-    /// Two entries: the Rust decodes both and compares what it decoded.
-    fn likeness<T: PartialEq>(&mut self, name: &str, kind: &[u8; 4], a: Vec<u8>, b: Vec<u8>, decode: fn(&[u8]) -> standalone::Result<T>) {
-        let (a, b, decode) = (black_box(a), black_box(b), black_box(decode));
-        let same = decode(&a).unwrap() == decode(&b).unwrap();
+    /// Two entries. The Rust has no such call: beside ours stands `alike_by_type`.
+    fn likeness(&mut self, name: &str, kind: &[u8; 4], a: Vec<u8>, b: Vec<u8>) {
+        let rust = black_box(alike_by_type as fn(u32, &[u8], &[u8]) -> standalone::Result<bool>);
+        let (a, b, number) = (black_box(a), black_box(b), u32::from_be_bytes(*kind));
+        let same = rust(number, &a, &b).unwrap();
         assert_eq!(alike(kind, &a, &b), (0, same as u64));
         let name = format!("decode_alike, {name}, {}", if same { "alike" } else { "unlike" });
-        self.ours(&name, || drop(alike(kind, &a, &b)));
-        self.rust(&name, || drop(black_box(decode(&a).unwrap() == decode(&b).unwrap())));
+        let mut out = [0];
+        self.ours(&name, || drop(alike_into(black_box(number), &a, &b, &mut out)));
+        self.rust(&name, || drop(black_box(rust(black_box(number), &a, &b).unwrap())));
     }
 
     fn likenesses(&mut self) {
-        fn bytes(s: &[u8]) -> standalone::Result<&[u8]> {
-            Ok(s)
-        }
         for second in [vec![0, 3], vec![0, 4]] {
-            self.likeness("roll", b"roll", vec![0, 3], second.clone(), decode_roll);
-            self.likeness("rap", b"rap ", vec![3], second[1..].to_vec(), decode_rap);
-            self.likeness("tele", b"tele", vec![0x80], vec![0x80 ^ second[1] << 5], decode_tele);
-            self.likeness("sap", b"sap ", vec![3], second[1..].to_vec(), decode_sap);
+            self.likeness("roll", b"roll", vec![0, 3], second.clone());
+            self.likeness("rap", b"rap ", vec![3], second[1..].to_vec());
+            self.likeness("tele", b"tele", vec![0x80], vec![0x80 ^ second[1] << 5]);
+            self.likeness("sap", b"sap ", vec![3], second[1..].to_vec());
         }
         for points in [2, 100] {
             let s = rash(points);
-            self.likeness(&format!("rash of {points} points"), b"rash", s.clone(), s.clone(), decode_rash);
-            self.likeness(&format!("rash of {points} points"), b"rash", s.clone(), odd_end(&s), decode_rash);
+            self.likeness(&format!("rash of {points} points"), b"rash", s.clone(), s.clone());
+            self.likeness(&format!("rash of {points} points"), b"rash", s.clone(), odd_end(&s));
         }
         for offsets in [2, 100] {
             let s = alst(offsets, 50);
-            self.likeness(&format!("alst of {offsets} offsets"), b"alst", s.clone(), s.clone(), decode_alst);
-            self.likeness(&format!("alst of {offsets} offsets"), b"alst", s.clone(), odd_end(&s), decode_alst);
+            self.likeness(&format!("alst of {offsets} offsets"), b"alst", s.clone(), s.clone());
+            self.likeness(&format!("alst of {offsets} offsets"), b"alst", s.clone(), odd_end(&s));
         }
         for size in [8, 1000] {
-            // the Rust has no decoder: its two lent slices are compared, by what the machine has for that
+            // no decoder: two slices are compared, by what the machine has for that
             let s = vec![7; size];
-            let bytes: fn(&[u8]) -> standalone::Result<&[u8]> = bytes;
-            for t in [s.clone(), odd_end(&s)] {
-                let (a, b, bytes) = (black_box(s.clone()), black_box(t), black_box(bytes));
-                let same = a == b;
-                assert_eq!(alike(b"abcd", &a, &b), (0, same as u64));
-                let name = format!("decode_alike, {size} bytes of an unknown type, {}", if same { "alike" } else { "unlike" });
-                self.ours(&name, || drop(alike(b"abcd", &a, &b)));
-                self.rust(&name, || drop(black_box(bytes(&a).unwrap() == bytes(&b).unwrap())));
-            }
+            self.likeness(&format!("{size} bytes of an unknown type"), b"abcd", s.clone(), s.clone());
+            self.likeness(&format!("{size} bytes of an unknown type"), b"abcd", s.clone(), odd_end(&s));
         }
     }
+}
+
+/// Whether two entries decode alike by the Rust's decoders, of a type that is known at run time, as `film_decode_alike` is told it.
+fn alike_by_type(kind: u32, a: &[u8], b: &[u8]) -> standalone::Result<bool> {
+    const ROLL: u32 = u32::from_be_bytes(*b"roll");
+    const PROL: u32 = u32::from_be_bytes(*b"prol");
+    const RAP: u32 = u32::from_be_bytes(*b"rap ");
+    const TELE: u32 = u32::from_be_bytes(*b"tele");
+    const SAP: u32 = u32::from_be_bytes(*b"sap ");
+    const RASH: u32 = u32::from_be_bytes(*b"rash");
+    const ALST: u32 = u32::from_be_bytes(*b"alst");
+    Ok(match kind {
+        ROLL => decode_roll(a)? == decode_roll(b)?,
+        PROL => decode_prol(a)? == decode_prol(b)?,
+        RAP => decode_rap(a)? == decode_rap(b)?,
+        TELE => decode_tele(a)? == decode_tele(b)?,
+        SAP => decode_sap(a)? == decode_sap(b)?,
+        RASH => decode_rash(a)? == decode_rash(b)?,
+        ALST => decode_alst(a)? == decode_alst(b)?,
+        _ => a == b,
+    })
 }
 
 pub fn run(bench: &mut Bench) {

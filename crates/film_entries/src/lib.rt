@@ -9,7 +9,8 @@ pub use decode::film_decode_rash;
 pub use decode::film_decode_roll;
 pub use decode::film_decode_sap;
 pub use decode::film_decode_tele;
-use group_alike::Alike;
+use film_status::bit_of;
+use group_alike::Likeness;
 pub use number::film_alst_piece;
 pub use number::film_alst_sample_offset;
 pub use number::film_rash_operation_point;
@@ -27,16 +28,12 @@ pub extern "C" fn film_decode_alike(
 ) -> u32
     ensures { λ r. ⌜ Returns (alike «grouping_type» (now (a .entry)) (now (b .entry))) alikeNumbers (now (out .entry)) (now (out .exit)) r ⌝ }
 {
-    let read = group_alike::decode_alike(grouping_type, a, b);
+    let read = group_alike::likeness_of(grouping_type, a, b);
     match read {
-        Alike::Same => {
-            out[0] = 1;
+        Likeness::Told(same) => {
+            out[0] = bit_of(same);
             0
         }
-        Alike::Different => {
-            out[0] = 0;
-            0
-        }
-        Alike::Refused(n) => n,
+        Likeness::Refused(n) => n,
     }
 }

@@ -2,11 +2,12 @@
 use mathlib.Core.Path.{_≡_, refl, ap, sym, _∙_}
 use mathlib.Core.Bool.{Bool}
 use mathlib.Core.List.{List}
-use Prim.Native.Nat.{ℕ, _≤_}
+use Prim.Native.Nat.{ℕ, _<_, _≤_}
 use native.Mathlib.Nat.{le-refl}
 use lib.IntN.{ℤ}
 use lib.ListN.{length}
-use Rattle.base_fields.specs.Answer.{Answer, given, andThen, within, inputLimit}
+use borrow.Author.Tests.{lt-ltb, le-ltb}
+use Rattle.base_fields.specs.Answer.{Answer, given, refused, andThen, within, inputLimit}
 use Rattle.base_fields.proofs.Answers.{given-inj, given-first, within-short, andThen-assoc}
 use Rattle.group_entries.specs.Decoded.{Decoded, Rap as RapFields, Sap as SapFields, Rash as RashFields, Alst as AlstFields, rollOf, rapOf, teleOf, sapOf, rashOf, alstOf, rawOf, decodeRoll, decodeRap, decodeTele, decodeSap, decodeRash, decodeAlst, pointAt, offsetAt, pairAt, upTo}
 use Rattle.group_entries.specs.Layout.{decodeAs}
@@ -20,7 +21,7 @@ use Rattle.group_entries.specs.declared.DecodedAlst.{DecodedAlst}
 use Rattle.group_entries.specs.declared.EntryLayout.{EntryLayout}
 use Rattle.group_entries.specs.declared.EntryLayout.the-variants.{Roll, Rap, Tele, Sap, Rash, Alst, Raw}
 use Rattle.group_entries.proofs.Values.{valueOf, Sized, valued}
-use Rattle.group_alike.specs.Front.{frontSize}
+use Rattle.group_alike.specs.Front.{FrontIs, frontSize, Short}
 
 -- the decoder of a layout: what the code returns, what that tells, and how the value is made of it
 pub record Decoder : Type 1 where
@@ -50,10 +51,6 @@ made-by Rash s = refl
 made-by Alst s = refl
 made-by Raw s = refl
 
--- the front's length, or the decoder's refusal
-abbrev pub FrontIs : Answer ℕ → EntryLayout → List ℕ → Type 0
-FrontIs x l s = x ≡ andThen (decodeAs l s) (λ v. given (frontSize l s))
-
 -- of an entry below the limit, whose decoder returned y
 pub front-told : (m : EntryLayout) (s : List ℕ) → length s ≤ inputLimit → {l : EntryLayout} → l ≡ m
     → {y r : decoderOf m .Returned} → decoderOf m .told y ≡ within s (decoderOf m .decoded s) → y ≡ r
@@ -62,6 +59,21 @@ front-told m s h p {y} {r} e q =
     let d = decoderOf m in
     let told : d .told r ≡ d .decoded s = ap (d .told) (sym q) ∙ e ∙ within-short s (d .decoded s) h in
     rw (p, made-by m s) (ap (λ a. andThen a (λ u. given (frontSize m s))) told ∙ sym (andThen-assoc (d .decoded s) (λ u. given (d .make s u)) (λ v. given (frontSize m s))))
+
+-- a short layout by the length alone
+pub short-refused : (l : EntryLayout) (n : ℕ) → Short l n → (s : List ℕ) → length s < n → FrontIs (refused 40) l s
+unfolding decodeRoll decodeRap decodeTele decodeSap
+short-refused Roll n p s h = simp (lt-ltb _ _ (rw p at h))
+short-refused Rap n p s h = simp (lt-ltb _ _ (rw p at h))
+short-refused Tele n p s h = simp (lt-ltb _ _ (rw p at h))
+short-refused Sap n p s h = simp (lt-ltb _ _ (rw p at h))
+
+pub short-front : (l : EntryLayout) (n : ℕ) → Short l n → (s : List ℕ) → n ≤ length s → FrontIs (given n) l s
+unfolding decodeRoll decodeRap decodeTele decodeSap
+short-front Roll n p s h = rw p (simp (le-ltb _ _ (rw p at h)))
+short-front Rap n p s h = rw p (simp (le-ltb _ _ (rw p at h)))
+short-front Tele n p s h = rw p (simp (le-ltb _ _ (rw p at h)))
+short-front Sap n p s h = rw p (simp (le-ltb _ _ (rw p at h)))
 
 pub front-within : (l : EntryLayout) (s : List ℕ) → Sized l s → frontSize l s ≤ length s
 front-within Roll s h = h

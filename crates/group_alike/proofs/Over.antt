@@ -7,8 +7,9 @@ use mathlib.Core.List.{List}
 use lib.ListN.{getD}
 use Rattle.base_fields.specs.Number.{beAt}
 use Rattle.base_fields.proofs.Bits.{Bytes}
+use Rattle.base_fields.proofs.Bytes.{beAt-one}
 use Rattle.group_entries.specs.Decoded.{upTo}
-use Rattle.group_alike.specs.Front.{Over}
+use Rattle.group_alike.specs.Front.{Over, lowFirst}
 
 -- the same before a place and from it on
 pub over-join : (a b : List ℕ) (p v w : ℕ) → Over a b p v → Over a b (p + v) w → Over a b p (v + w)
@@ -36,6 +37,28 @@ be-of-over (suc w) a b p o =
     let high = be-of-over w a b p (λ i h l. o i h (omega arith)) in
     let low = o (p + w) (omega arith) (omega arith) in
     rw (high, low) refl
+
+-- the same for the lowest byte first
+pub over-of-low : (w : ℕ) (a b : List ℕ) (p k : ℕ) → Bytes a → Bytes b → lowFirst w a p k ≡ lowFirst w b p k → Over a b (p + k) w
+unfolding lowFirst
+over-of-low zero a b p k ba bb e i h l = absurd (omega arith)
+over-of-low (suc w) a b p k ba bb e i h l =
+    let below-a = rw (← beAt-one a (p + k)) at (ba (p + k)) in
+    let below-b = rw (← beAt-one b (p + k)) at (bb (p + k)) in
+    let low : beAt 1 a (p + k) ≡ beAt 1 b (p + k) = omega (arith, below-a, below-b) in
+    let high : lowFirst w a p (suc k) ≡ lowFirst w b p (suc k) = omega (arith, below-a, below-b) in
+    elim (decLt (p + k) i) [
+      | yes m ↦ over-of-low w a b p (suc k) ba bb high i (omega arith) (omega arith)
+      | no m ↦ let q : i ≡ p + k = omega arith in rw (q, ← beAt-one a (p + k), ← beAt-one b (p + k)) low
+    ]
+
+pub low-of-over : (w : ℕ) (a b : List ℕ) (p k : ℕ) → Over a b (p + k) w → lowFirst w a p k ≡ lowFirst w b p k
+unfolding lowFirst
+low-of-over zero a b p k o = refl
+low-of-over (suc w) a b p k o =
+    let low : beAt 1 a (p + k) ≡ beAt 1 b (p + k) = rw (beAt-one a (p + k), beAt-one b (p + k)) (o (p + k) (omega arith) (omega arith)) in
+    let high = low-of-over w a b p (suc k) (λ i h l. o i (omega arith) (omega arith)) in
+    rw (low, high) refl
 
 -- f and g agree at k, .., k + n - 1 exactly where their lists are equal
 module _ {A : Type 0} (f g : ℕ → A) where

@@ -1,5 +1,6 @@
 // Whether two entries of one grouping type decode to the same value (document 01, part 8: like meanings).
 use base_fields::INPUT_LIMIT;
+use base_fields::read_u8;
 use group_entries::DecodedAlst;
 use group_entries::DecodedRap;
 use group_entries::DecodedRash;
@@ -8,12 +9,13 @@ use group_entries::DecodedSap;
 use group_entries::DecodedTele;
 use group_entries::EntryLayout;
 ghost use mathlib.Core.Path.{_≡_};
-ghost use mathlib.Core.Bool.{true};
-ghost use Prim.Native.Nat.{_+_, _≤_};
+ghost use Prim.Native.Nat.{ℕ, _+_, _≤_};
+ghost use lib.Dec.{eqb};
 ghost use lib.ListN.{length};
 ghost use Rattle.base_fields.specs.Answer.{given, andThen, inputLimit};
-ghost use Rattle.group_alike.specs.Front.{significantOf, GivesSameFront, Over, frontSize, toldFrontSize};
+ghost use Rattle.group_alike.specs.Front.{AllBytes, lowFirst, significantOf, GivesSame, Short, alikeAs, LeftOf, FrontIs, frontSize, toldFrontSize, toldLikeness};
 ghost use Rattle.group_entries.specs.Layout.{decodeAs};
+ghost use Rattle.group_entries.specs.declared.EntryLayout.the-variants.{Roll, Rash, Alst};
 ghost use Rattle.group_alike.specs.Alike.{toldAlike, alike};
 
 pub enum Alike {
@@ -22,24 +24,46 @@ pub enum Alike {
     Refused(u32),
 }
 
+// The same as a truth value.
+pub enum Likeness {
+    Told(bool),
+    Refused(u32),
+}
+
+// What two entries of a layout still have to be compared by: nothing, or so many bytes at the front of both.
+enum Left {
+    Told(bool),
+    Refused(u32),
+    Bytes(usize),
+}
+
 // How many bytes at the front of an entry decide its value, or the decoder's refusal.
 pub enum Front {
     Bytes(usize),
     Refused(u32),
 }
 
-// The bits of a byte that a layout reads, packed.
-fn significant(layout: EntryLayout, byte: u8) -> u8
-    ensures { λ r. ⌜ r ≡ significantOf layout byte ⌝ }
+// The front of a rash: its points and what stands behind them.
+fn rash_front(s: &[u8]) -> Front
+    requires { ⌜ length (now s) ≤ inputLimit ⌝ }
+    ensures { λ r. ⌜ FrontIs (toldFrontSize r) Rash (now (s .entry)) ⌝ }
 {
-    match layout {
-        EntryLayout::Tele => byte / 128,
-        EntryLayout::Sap => byte / 128 * 16 + byte % 16,
-        EntryLayout::Roll => byte,
-        EntryLayout::Rap => byte,
-        EntryLayout::Rash => byte,
-        EntryLayout::Alst => byte,
-        EntryLayout::Raw => byte,
+    match group_entries::decode_rash(s) {
+        DecodedRash::Rash(v) => Front::Bytes(
+            group_entries::rash_points_end(v.operation_point_count) + 9,
+        ),
+        DecodedRash::Refused(n) => Front::Refused(n),
+    }
+}
+
+// The front of an alst: all of it.
+fn alst_front(s: &[u8]) -> Front
+    requires { ⌜ length (now s) ≤ inputLimit ⌝ }
+    ensures { λ r. ⌜ FrontIs (toldFrontSize r) Alst (now (s .entry)) ⌝ }
+{
+    match group_entries::decode_alst(s) {
+        DecodedAlst::Alst(_) => Front::Bytes(s.len()),
+        DecodedAlst::Refused(n) => Front::Refused(n),
     }
 }
 
@@ -65,55 +89,42 @@ pub fn front_of(layout: EntryLayout, s: &[u8]) -> Front
             DecodedSap::Sap(_) => Front::Bytes(1),
             DecodedSap::Refused(n) => Front::Refused(n),
         },
-        EntryLayout::Rash => match group_entries::decode_rash(s) {
-            DecodedRash::Rash(v) => Front::Bytes(
-                group_entries::rash_points_end(v.operation_point_count) + 9,
-            ),
-            DecodedRash::Refused(n) => Front::Refused(n),
-        },
-        EntryLayout::Alst => match group_entries::decode_alst(s) {
-            DecodedAlst::Alst(_) => Front::Bytes(s.len()),
-            DecodedAlst::Refused(n) => Front::Refused(n),
-        },
+        EntryLayout::Rash => rash_front(s),
+        EntryLayout::Alst => alst_front(s),
         EntryLayout::Raw => Front::Bytes(s.len()),
     }
 }
 
-// Whether the eight bytes at a place are the same.
-fn same_eight(a: &[u8], b: &[u8], at: usize) -> bool
-    requires { ⌜ (at + 8 ≤ length (now a)) × (at + 8 ≤ length (now b)) ⌝ }
-    ensures { λ r. ⌜ (r ≡ true → Over (now (a .entry)) (now (b .entry)) at 8) ⌝ }
+// Eight bytes as a number, the first one lowest, so that the compiler makes one load of it.
+fn eight_at(s: &[u8], at: usize) -> u64
+    requires { ⌜ at + 8 ≤ length (now s) ⌝ }
+    ensures { λ r. ⌜ r ≡ lowFirst 8 (now (s .entry)) at 0 ⌝ }
 {
-    if base_fields::read_u32(a, at) != base_fields::read_u32(b, at) {
-        return false;
-    }
-    base_fields::read_u32(a, at + 4) == base_fields::read_u32(b, at + 4)
+    let low = (read_u8(s, at) as u64)
+        + (read_u8(s, at + 1) as u64) * 256
+        + (read_u8(s, at + 2) as u64) * 65536
+        + (read_u8(s, at + 3) as u64) * 16777216;
+    let high = (read_u8(s, at + 4) as u64) * 4294967296
+        + (read_u8(s, at + 5) as u64) * 1099511627776
+        + (read_u8(s, at + 6) as u64) * 281474976710656
+        + (read_u8(s, at + 7) as u64) * 72057594037927936;
+    low + high
 }
 
-// So many of the first n bytes are the same: as many eights as are, one after the other.
-fn same_eights(a: &[u8], b: &[u8], n: usize) -> usize
+// Whether the first n bytes are the same: by eights, then byte by byte.
+fn same_bytes(a: &[u8], b: &[u8], n: usize) -> bool
     requires { ⌜ (n ≤ length (now a)) × (n ≤ length (now b)) ⌝ }
-    ensures { λ r. ⌜ (r ≤ n) × Over (now (a .entry)) (now (b .entry)) 0 r ⌝ }
+    ensures { λ r. ⌜ GivesSame (now (a .entry)) (now (b .entry)) n r ⌝ }
 {
-    let mut i = 0;
+    let mut i: usize = 0;
     while 8 <= n - i {
-        if same_eight(a, b, i) {
-            i += 8;
-        } else {
-            return i;
+        if eight_at(a, i) != eight_at(b, i) {
+            return false;
         }
+        i += 8;
     }
-    i
-}
-
-// Whether the first n bytes are the same under a layout: by eights, then by what the layout reads of each byte.
-fn same_front(layout: EntryLayout, a: &[u8], b: &[u8], n: usize) -> bool
-    requires { ⌜ (n ≤ length (now a)) × (n ≤ length (now b)) ⌝ }
-    ensures { λ r. ⌜ GivesSameFront layout (now (a .entry)) (now (b .entry)) n r ⌝ }
-{
-    let mut i = same_eights(a, b, n);
     while i < n {
-        if significant(layout, a[i]) != significant(layout, b[i]) {
+        if a[i] != b[i] {
             return false;
         }
         i += 1;
@@ -121,30 +132,132 @@ fn same_front(layout: EntryLayout, a: &[u8], b: &[u8], n: usize) -> bool
     true
 }
 
+// Whether a layout reads the same of two bytes.
+fn same_byte(layout: EntryLayout, x: u8, y: u8) -> bool
+    ensures { λ r. ⌜ r ≡ eqb (significantOf layout x) (significantOf layout y) ⌝ }
+{
+    match layout {
+        EntryLayout::Tele => x / 128 == y / 128,
+        EntryLayout::Sap => {
+            if x / 128 == y / 128 {
+                x % 16 == y % 16
+            } else {
+                false
+            }
+        }
+        EntryLayout::Roll => x == y,
+        EntryLayout::Rap => x == y,
+        EntryLayout::Rash => x == y,
+        EntryLayout::Alst => x == y,
+        EntryLayout::Raw => x == y,
+    }
+}
+
+// Entries of one byte.
+fn byte_left(layout: EntryLayout, a: &[u8], b: &[u8]) -> Left
+    requires { ⌜ Short layout 1 ⌝ }
+    ensures { λ r. ⌜ LeftOf layout (now (a .entry)) (now (b .entry)) r ⌝ }
+{
+    if a.len() < 1 {
+        return Left::Refused(40);
+    }
+    if b.len() < 1 {
+        return Left::Refused(40);
+    }
+    Left::Told(same_byte(layout, a[0], b[0]))
+}
+
+// Entries of two bytes.
+fn roll_left(a: &[u8], b: &[u8]) -> Left
+    ensures { λ r. ⌜ LeftOf Roll (now (a .entry)) (now (b .entry)) r ⌝ }
+{
+    if a.len() < 2 {
+        return Left::Refused(40);
+    }
+    if b.len() < 2 {
+        return Left::Refused(40);
+    }
+    if a[0] != b[0] {
+        return Left::Told(false);
+    }
+    Left::Told(a[1] == b[1])
+}
+
+// Entries of a layout that reads all bits of its front: the first one's front has m bytes.
+fn second_left(layout: EntryLayout, a: &[u8], b: &[u8], m: usize, front: Front) -> Left
+    requires { ⌜ (AllBytes (now a)) × (AllBytes (now b)) × (FrontIs (given m) layout (now a)) × (FrontIs (toldFrontSize front) layout (now b)) × ((x : ℕ) → significantOf layout x ≡ x) ⌝ }
+    ensures { λ r. ⌜ LeftOf layout (now (a .entry)) (now (b .entry)) r ⌝ }
+{
+    match front {
+        Front::Refused(code) => Left::Refused(code),
+        Front::Bytes(n) => {
+            if m == n {
+                Left::Bytes(n)
+            } else {
+                Left::Told(false)
+            }
+        }
+    }
+}
+
+fn rash_left(a: &[u8], b: &[u8]) -> Left
+    requires { ⌜ (length (now a) ≤ inputLimit) × (length (now b) ≤ inputLimit) ⌝ }
+    ensures { λ r. ⌜ LeftOf Rash (now (a .entry)) (now (b .entry)) r ⌝ }
+{
+    match rash_front(a) {
+        Front::Refused(code) => Left::Refused(code),
+        Front::Bytes(m) => second_left(EntryLayout::Rash, a, b, m, rash_front(b)),
+    }
+}
+
+fn alst_left(a: &[u8], b: &[u8]) -> Left
+    requires { ⌜ (length (now a) ≤ inputLimit) × (length (now b) ≤ inputLimit) ⌝ }
+    ensures { λ r. ⌜ LeftOf Alst (now (a .entry)) (now (b .entry)) r ⌝ }
+{
+    match alst_front(a) {
+        Front::Refused(code) => Left::Refused(code),
+        Front::Bytes(m) => second_left(EntryLayout::Alst, a, b, m, alst_front(b)),
+    }
+}
+
+// Each layout has code of its own, so that the compiler branches once, on the type.
+fn left_of(layout: EntryLayout, a: &[u8], b: &[u8]) -> Left
+    requires { ⌜ (length (now a) ≤ inputLimit) × (length (now b) ≤ inputLimit) ⌝ }
+    ensures { λ r. ⌜ LeftOf layout (now (a .entry)) (now (b .entry)) r ⌝ }
+{
+    match layout {
+        EntryLayout::Roll => roll_left(a, b),
+        EntryLayout::Rap => byte_left(EntryLayout::Rap, a, b),
+        EntryLayout::Tele => byte_left(EntryLayout::Tele, a, b),
+        EntryLayout::Sap => byte_left(EntryLayout::Sap, a, b),
+        EntryLayout::Rash => rash_left(a, b),
+        EntryLayout::Alst => alst_left(a, b),
+        EntryLayout::Raw => second_left(EntryLayout::Raw, a, b, a.len(), Front::Bytes(b.len())),
+    }
+}
+
+// The answer of `decode_alike` with a truth value, which a caller hands on without a branch.
+pub fn likeness_of(grouping_type: u32, a: &[u8], b: &[u8]) -> Likeness
+    ensures { λ r. ⌜ toldLikeness r ≡ alike «grouping_type» (now (a .entry)) (now (b .entry)) ⌝ }
+{
+    if INPUT_LIMIT < a.len() {
+        return Likeness::Refused(55);
+    }
+    if INPUT_LIMIT < b.len() {
+        return Likeness::Refused(55);
+    }
+    match left_of(group_entries::layout_of(grouping_type), a, b) {
+        Left::Told(same) => Likeness::Told(same),
+        Left::Refused(code) => Likeness::Refused(code),
+        Left::Bytes(n) => Likeness::Told(same_bytes(a, b, n)),
+    }
+}
+
 pub fn decode_alike(grouping_type: u32, a: &[u8], b: &[u8]) -> Alike
     ensures { λ r. ⌜ toldAlike r ≡ alike «grouping_type» (now (a .entry)) (now (b .entry)) ⌝ }
 {
-    if INPUT_LIMIT < a.len() {
-        return Alike::Refused(55);
-    }
-    if INPUT_LIMIT < b.len() {
-        return Alike::Refused(55);
-    }
-    let layout = group_entries::layout_of(grouping_type);
-    let m = match front_of(layout, a) {
-        Front::Bytes(k) => k,
-        Front::Refused(code) => return Alike::Refused(code),
-    };
-    let n = match front_of(layout, b) {
-        Front::Bytes(k) => k,
-        Front::Refused(code) => return Alike::Refused(code),
-    };
-    if m != n {
-        return Alike::Different;
-    }
-    if same_front(layout, a, b, n) {
-        Alike::Same
-    } else {
-        Alike::Different
+    match likeness_of(grouping_type, a, b) {
+        Likeness::Told(same) => { if same { Alike::Same } else { Alike::Different } }
+        Likeness::Refused(n) => Alike::Refused(n),
     }
 }

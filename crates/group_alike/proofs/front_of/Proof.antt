@@ -1,12 +1,10 @@
 -- Each arm is the front of its layout, from the decoder's answer: `arm` at the place where the match on the layout began.
 use mathlib.Core.Path.{_≡_, refl, ap, sym, _∙_}
 use Rattle.base_fields.specs.Answer.{given, andThen, within}
-use Rattle.group_entries.specs.Told.{toldRash}
 use Rattle.group_entries.specs.declared.EntryLayout.{EntryLayout}
 use Rattle.group_entries.specs.declared.EntryLayout.the-variants.{Roll, Rap, Tele, Sap, Rash, Alst}
-use Rattle.group_entries.proofs.Extent.{rash-extent}
-use Rattle.group_alike.specs.Front.{frontSize}
-use Rattle.group_alike.proofs.Fronts.{decoderOf, FrontIs, front-told}
+use Rattle.group_alike.specs.Front.{FrontIs, frontSize}
+use Rattle.group_alike.proofs.Fronts.{decoderOf, front-told}
 use borrow.Author.Needs.{needs}
 use Rattle.group_alike.proofs.front_of.Statement.{statement}
 use Rattle.group_alike.proofs.front_of.Tie as tie
@@ -67,35 +65,17 @@ enum-known-n-4 c = search needs
 enum-told-9 : tie.Need-enum-told-9
 enum-told-9 c = search needs
 
-decode-rash-requires : tie.Need-decode-rash-requires
-decode-rash-requires c κs = search needs
-
-enum-known-v : tie.Need-enum-known-v
-enum-known-v c = search needs
-
-rash-points-end-requires : tie.Need-rash-points-end-requires
-rash-points-end-requires c κs = search needs
-
-add-t22 : tie.Need-add-t22
-add-t22 c = search needs
-
-enum-known-n-5 : tie.Need-enum-known-n-5
-enum-known-n-5 c = search needs
+rash-front-requires : tie.Need-rash-front-requires
+rash-front-requires c κs = search needs
 
 enum-told-10 : tie.Need-enum-told-10
 enum-told-10 c = search needs
 
-decode-alst-requires : tie.Need-decode-alst-requires
-decode-alst-requires c κs = search needs
+alst-front-requires : tie.Need-alst-front-requires
+alst-front-requires c κs = search needs
 
 enum-told-11 : tie.Need-enum-told-11
 enum-told-11 c = search needs
-
-enum-known-n-6 : tie.Need-enum-known-n-6
-enum-known-n-6 c = search needs
-
-enum-told-12 : tie.Need-enum-told-12
-enum-told-12 c = search needs
 
 returns : tie.Need-returns
 returns c = let b = c .before .before in arm Roll (b .before .before .before .before) (b .before .enum-told .given .1) (b .decode-roll .ensures) (c .enum-told2 .given .1)
@@ -122,23 +102,13 @@ returns-8 : tie.Need-returns-8
 returns-8 c = let b = c .before .before .before in arm Sap (b .before .before .before .before) (b .before .enum-told7 .given .1) (b .decode-sap .ensures) (c .before .n4 .given .1)
 
 returns-9 : tie.Need-returns-9
-returns-9 c =
-    let b = c .before .before .before .before in
-    let e = c .before .before .v .given .1 in
-    let x = rash-extent {s = b .before .before .before .before .args .s .now} (record { told = ap toldRash (sym e) ∙ b .decode-rash .ensures }) in
-    rw (c .rash-points-end .ensures .0, x .points) (arm Rash (b .before .before .before .before) (b .before .enum-told9 .given .1) (b .decode-rash .ensures) e)
+returns-9 c = rw (c .before .enum-told9 .given .1) (c .rash-front .ensures)
 
 returns-10 : tie.Need-returns-10
-returns-10 c = let b = c .before .before .before in arm Rash (b .before .before .before .before) (b .before .enum-told9 .given .1) (b .decode-rash .ensures) (c .before .n5 .given .1)
+returns-10 c = rw (c .before .enum-told10 .given .1) (c .alst-front .ensures)
 
 returns-11 : tie.Need-returns-11
-returns-11 c = let b = c .before .before in arm Alst (b .before .before .before .before) (b .before .enum-told10 .given .1) (b .decode-alst .ensures) (c .enum-told11 .given .1)
-
-returns-12 : tie.Need-returns-12
-returns-12 c = let b = c .before .before .before in arm Alst (b .before .before .before .before) (b .before .enum-told10 .given .1) (b .decode-alst .ensures) (c .before .n6 .given .1)
-
-returns-13 : tie.Need-returns-13
-returns-13 c = rw (c .enum-told12 .given .1) refl
+returns-11 c = rw (c .enum-told11 .given .1) refl
 
 pub front-of-spec : {M : Type 1} → statement M
 front-of-spec =
@@ -161,16 +131,10 @@ front-of-spec =
     enum-told-8
     enum-known-n-4
     enum-told-9
-    decode-rash-requires
-    enum-known-v
-    rash-points-end-requires
-    add-t22
-    enum-known-n-5
+    rash-front-requires
     enum-told-10
-    decode-alst-requires
+    alst-front-requires
     enum-told-11
-    enum-known-n-6
-    enum-told-12
     returns
     returns-2
     returns-3
@@ -181,6 +145,4 @@ front-of-spec =
     returns-8
     returns-9
     returns-10
-    returns-11
-    returns-12
-    returns-13)
+    returns-11)
