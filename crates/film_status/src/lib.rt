@@ -1,5 +1,5 @@
-// What the functions of the C interface share (film_atoms, film_tables, film_entries, film_descriptions): numbers and slices only. Each of
-// them returns a status: 0 and the values in `out`, NONE, or the number of a refusal. include/film_index.h declares them for C.
+// What the functions of the C interface share (the film_ crates): numbers and slices only. Each of them returns a status: 0 and the values
+// in `out`, NONE, or the number of a refusal. include/film_index.h declares them for C.
 ghost use mathlib.Core.Path.{_≡_};
 ghost use Rattle.film_status.specs.Status.{bit};
 
