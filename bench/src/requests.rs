@@ -62,26 +62,28 @@ pub fn run(bench: &mut Bench) {
     });
 }
 
-/// Where decoding begins for the last frame of a roll group, as its sample counts grow.
+/// Where decoding begins in a roll group, for its first and for its last frame, as its sample counts grow.
 pub fn samples(bench: &mut Bench) {
     let sgpd = sgpd_of(b"roll", &[vec![0, 0], vec![0, 0]]);
-    for shape in ["roll_start, an sbgp row", "roll_start, csgp [1]", "roll_start, csgp [1,2]", "roll_start, csgp [1,2], whole periods"] {
-        for count in [1, 1000, 1_000_000, u32::MAX] {
-            let samples = if shape.ends_with("periods") { count.min(u32::MAX / 2) * 2 } else { count };
-            let table = match shape {
-                "roll_start, an sbgp row" => {
-                    let row = [[0; 4], *b"roll", 1u32.to_be_bytes(), samples.to_be_bytes(), 1u32.to_be_bytes()].concat();
-                    atom_of(b"sbgp", &row)
-                }
-                "roll_start, csgp [1]" => atom_of(b"csgp", &csgp(b"roll", 3, &[(samples, vec![1])])),
-                _ => atom_of(b"csgp", &csgp(b"roll", 3, &[(samples, vec![1, 2])])),
-            };
-            let s = black_box([table, atom_of(b"sgpd", &sgpd)].concat());
-            let mut out = [0u64; 1];
-            bench.measure(format!("samples\t{shape}\t{samples}"), || {
-                assert_eq!(unsafe { film_roll_start(s.as_ptr(), s.len(), samples - 1, out.as_mut_ptr()) }, 0)
-            });
-            assert_eq!(out[0], samples as u64 - 1);
+    for shape in ["an sbgp row", "csgp [1]", "csgp [1,2]"] {
+        for last in [false, true] {
+            for samples in [1, 1000, 1_000_000, u32::MAX] {
+                let table = match shape {
+                    "an sbgp row" => {
+                        let row = [[0; 4], *b"roll", 1u32.to_be_bytes(), samples.to_be_bytes(), 1u32.to_be_bytes()].concat();
+                        atom_of(b"sbgp", &row)
+                    }
+                    "csgp [1]" => atom_of(b"csgp", &csgp(b"roll", 3, &[(samples, vec![1])])),
+                    _ => atom_of(b"csgp", &csgp(b"roll", 3, &[(samples, vec![1, 2])])),
+                };
+                let s = black_box([table, atom_of(b"sgpd", &sgpd)].concat());
+                let frame = if last { samples - 1 } else { 0 };
+                let mut out = [0u64; 1];
+                bench.measure(format!("samples\troll_start of the {} frame, {shape}\t{samples}", if last { "last" } else { "first" }), || {
+                    assert_eq!(unsafe { film_roll_start(s.as_ptr(), s.len(), frame, out.as_mut_ptr()) }, 0)
+                });
+                assert_eq!(out[0], frame as u64);
+            }
         }
     }
 }

@@ -3,7 +3,7 @@ use mathlib.Core.Path.{_≡_, refl, sym, _∙_}
 use mathlib.Core.Bool.{Bool, true, false}
 use Prim.Native.Nat.{ℕ, zero, suc, _+_, _≤_, _<_}
 use native.Mathlib.Nat.{add-zero}
-use native.Mathlib.Decide.{decLt}
+use native.Mathlib.Decide.{decLt, ℕ-discrete}
 use native.Mathlib.Omega.{arith}
 use borrow.Author.Tests.{eq-eqb, ne-eqb, le-leb, lt-leb, eqb-true, leb-false}
 use mathlib.Core.List.{List, [], _∷_, _++_, reverse, append-nil, append-assoc, reverse-cons}
@@ -74,6 +74,32 @@ pub replay-no-room : (room : ℕ) (rows : List Row) (i n : ℕ) → Begins rows 
 unfolding replay
 replay-no-room room rows i zero b h p = absurd (omega arith)
 replay-no-room room rows i (suc n) b h p = rw (enter-no-room room rows i b h)
+
+-- the count of the last row
+abbrev lastCount : List Row → ℕ
+lastCount [] = 0
+lastCount (r ∷ rs) = r .count
+
+-- n samples more can neither pass a count's limit nor the room
+pub record Fits (room : ℕ) (rows : List Row) (n : ℕ) : Type 0 where
+  pub counts : lastCount rows + n ≤ countLimit
+  pub records : length rows + n ≤ room
+
+enter-fits : (room : ℕ) (rows : List Row) (i n : ℕ) → Fits room rows (suc n) → (next : List Row) × (enter room rows i ≡ given next) × Fits room next n
+enter-fits room [] i n f = (record { count = 1; index = i } ∷ [], enter-begin room [] i tt (omega (arith, f .records)), record { counts = omega (arith, f .counts); records = omega (arith, f .records) })
+enter-fits room (r ∷ rs) i n f =
+    elim (ℕ-discrete (r .index) i) [
+      | yes e ↦ (record { count = r .count + 1; index = i } ∷ rs, enter-join room r rs e (omega (arith, f .counts)), record { counts = omega (arith, f .counts); records = omega (arith, f .records) })
+      | no e ↦ (record { count = 1; index = i } ∷ r ∷ rs, enter-begin room (r ∷ rs) i e (omega (arith, f .records)), record { counts = omega (arith, f .counts); records = omega (arith, f .records) })
+    ]
+
+-- then all of them are entered
+pub replay-fits : (room : ℕ) (rows : List Row) (is : List ℕ) → Fits room rows (length is) → (out : List Row) × (replay room rows is ≡ given out)
+unfolding replay
+replay-fits room rows [] f = (rows, refl)
+replay-fits room rows (i ∷ is) f =
+    let one = enter-fits room rows i (length is) f in
+    let rest = replay-fits room (one .0) is (one .2) in (rest .0, rw (one .1) (rest .1))
 
 -- what holds of the rows `out` after samples were entered into `rows`
 record Entered (room : ℕ) (rows : List Row) (is : List ℕ) (out : List Row) : Type 0 where

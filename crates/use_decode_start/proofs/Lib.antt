@@ -1,5 +1,6 @@
 pub mod Entries
 pub mod Bests
 pub mod Searching
+pub mod Counts
 pub mod From
 pub mod Laws

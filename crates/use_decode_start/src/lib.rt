@@ -3,11 +3,19 @@ mod distances;
 mod positions;
 mod search;
 
+ghost use mathlib.Core.Path.{_≡_};
+ghost use Rattle.base_fields.specs.Answer.{given, andThen};
 ghost use Rattle.base_fields.specs.Fourcc as fourcc_of;
+ghost use Rattle.table_rows.specs.Pattern.{coveredBy};
+ghost use Rattle.table_records.specs.Lent.{tableFrom};
+ghost use Rattle.table_runs.specs.Ahead.{allIn, aheadIn, LaidIn};
+ghost use Rattle.table_needed.specs.Needed.{unlimited};
 ghost use Rattle.use_decode_start.specs.Start.{GivesStart};
 ghost use Rattle.use_decode_start.specs.Told.{toldStart};
 ghost use Rattle.use_decode_start.specs.From.{searchedFrom, GivesBy};
+ghost use Rattle.use_decode_start.specs.Inner.{toldCounts};
 use base_fields::fourcc;
+use base_ids::COUNT_LIMIT;
 use base_ids::SampleNumber;
 use group_sgpd::ReadHead;
 use group_sgpd::entry_marks;
@@ -20,6 +28,7 @@ use table_front::TableKind;
 use table_needed::UNLIMITED;
 use table_records::count_rows;
 use table_runs::ReadTable;
+use table_runs::SampleTable;
 use table_runs::count_samples;
 use table_runs::read_table;
 
@@ -44,6 +53,12 @@ enum Decoded {
     Refused(u32),
 }
 
+// Whether a table's rows can be made.
+enum CheckedCounts {
+    Fit,
+    Refused(u32),
+}
+
 // A sample, or none.
 enum Latest {
     Nothing,
@@ -54,6 +69,21 @@ enum Latest {
 enum SearchedFor {
     Latest(Latest),
     Refused(u32),
+}
+
+// 28, where the count of a row would pass its limit. In a table that covers no more samples than that limit none does, and its rows need not be
+// counted.
+fn check_counts(table_s: &[u8], table: SampleTable, covered: u64) -> CheckedCounts
+    requires { ⌜ (LaidIn (now «table_s») table) × (covered ≡ coveredBy (aheadIn (now «table_s») table (allIn table))) ⌝ }
+    ensures { λ r. ⌜ toldCounts r ≡ andThen (tableFrom (now («table_s» .entry)) table unlimited) (λ x. given tt) ⌝ }
+{
+    if covered <= COUNT_LIMIT as u64 {
+        return CheckedCounts::Fit;
+    }
+    match count_rows(table_s, table, UNLIMITED) {
+        Measured::Rows(_) => CheckedCounts::Fit,
+        Measured::Refused(n) => CheckedCounts::Refused(n),
+    }
 }
 
 // What follows the walk: the payloads of the table and of the sgpd.
@@ -70,7 +100,8 @@ fn start_in(
         ReadTable::Table(t) => t,
         ReadTable::Refused(n) => return DecodeStart::Refused(n),
     };
-    if let Measured::Refused(n) = count_rows(table_s, table, UNLIMITED) {
+    let covered = count_samples(table_s, table);
+    if let CheckedCounts::Refused(n) = check_counts(table_s, table, covered) {
         return DecodeStart::Refused(n);
     }
     let head = match read_sgpd(s) {
@@ -78,7 +109,7 @@ fn start_in(
         ReadHead::Refused(n) => return DecodeStart::Refused(n),
     };
     let wanted = frame.0 as u64;
-    if count_samples(table_s, table) <= wanted {
+    if covered <= wanted {
         return DecodeStart::Refused(62);
     }
     let marks = entry_marks(s, head);

@@ -5,7 +5,6 @@ use mathlib.Core.Option.{Option, none, some}
 use Prim.Native.Nat.{ℕ, _<_}
 use native.Mathlib.Omega.{arith}
 use borrow.Author.Needs.{needs}
-use lib.ListN.{length}
 use Rattle.base_fields.specs.Answer.{Answer, given}
 use Rattle.base_fields.proofs.Answers.{given-first, refused-first}
 use Rattle.group_sgpd.specs.Sgpd.{sgpd}
@@ -50,16 +49,19 @@ module _ (c : tie.After-t) where
   same : parsedAs (start .args .kind) ts unlimited ≡ tableFrom ts table unlimited
   same = parsed-from (start .args .kind) ts table unlimited (held .kind)
 
--- whose rows were counted
+-- whose rows can be made
 module _ (c : tie.After-enum-told) where
   abbrev read : tie.After-t
-  read = c .before .before .before .before
+  read = c .before .before .before .before .before
 
-  counted : (x : Table) × (tableFrom (ts read) (table read) unlimited ≡ given x) × (given (length (x .rows)) ≡ given (c .enum-told .given .0 .0))
-  counted = given-first (tableFrom (ts read) (table read) unlimited) (λ t. given (length (t .rows))) (sym (rw (c .enum-told .given .1) at (c .before .before .count-rows .ensures)))
+  made : (x : Table) × (tableFrom (ts read) (table read) unlimited ≡ given x) × (_≡_ {A = Answer Unit} (given tt) (given tt))
+  made = given-first (tableFrom (ts read) (table read) unlimited) (λ x. given tt) (sym (rw (c .enum-told .given .1) at (c .before .before .check-counts .ensures)))
 
-  parsed : parsedAs (start read .args .kind) (ts read) unlimited ≡ given (counted .0)
-  parsed = same read ∙ counted .1
+  parsed : parsedAs (start read .args .kind) (ts read) unlimited ≡ given (made .0)
+  parsed = same read ∙ made .1
+
+  covers : c .before .before .before .count-samples .result ≡ coveredBy (patterns read)
+  covers = c .before .before .before .count-samples .ensures .0
 
 -- and the descriptions
 module _ (c : tie.After-h) where
@@ -93,10 +95,10 @@ module _ (c : tie.After-h) where
 -- and searched
 module _ (c : tie.After-search-table) where
   abbrev head : tie.After-h
-  head = c .before .before .before .before .before .before .before
+  head = c .before .before .before .before .before .before
 
   enough : wanted head < coveredBy (patterns (at head))
-  enough = omega (arith, c .before .before .before .if1 .left, c .before .before .before .before .count-samples .ensures .0)
+  enough = omega (arith, c .before .before .before .if1 .left, covers (rows head))
 
   told : toldSearch (c .search-table .result) ≡ searchedIn (t head) (s head) (wanted head) (upToFrame (wanted head) (patterns (at head)))
   told = c .search-table .ensures
@@ -130,18 +132,21 @@ returns c =
     let a = c .before .before .before .before .before .before .args in
     from-table (a .kind) (a .table-s .now) _ _ _ (refused-parsed (a .kind) (a .table-s .now) _ (rw (c .before .n .given .1) at (c .before .before .before .read-table .ensures)))
 
-count-rows-requires : tie.Need-count-rows-requires
-count-rows-requires c κs = held (c .before) .laid
+count-samples-requires : tie.Need-count-samples-requires
+count-samples-requires c κs = held (c .before) .whole
+
+check-counts-requires : tie.Need-check-counts-requires
+check-counts-requires c κs = (held (c .before .before) .laid, c .count-samples .ensures .0)
 
 enum-known-n-2 : tie.Need-enum-known-n-2
 enum-known-n-2 c = search needs
 
 returns-2 : tie.Need-returns-2
 returns-2 c =
-    let at = c .before .before .before .before .before in
+    let at = c .before .before .before .before .before .before in
     let a = start at .args in
-    let refused = rw (c .before .n2 .given .1) at (c .before .before .before .count-rows .ensures) in
-    from-table (a .kind) (a .table-s .now) _ _ _ (same at ∙ refused-first _ (λ x. length (x .rows)) (sym refused))
+    let refused = rw (c .before .n2 .given .1) at (c .before .before .before .check-counts .ensures) in
+    from-table (a .kind) (a .table-s .now) _ _ _ (same at ∙ refused-first _ (λ x. tt) (sym refused))
 
 enum-told : tie.Need-enum-told
 enum-told c = search needs
@@ -166,21 +171,18 @@ returns-3 c =
 cast-wanted : tie.Need-cast-wanted
 cast-wanted c = search needs
 
-count-samples-requires : tie.Need-count-samples-requires
-count-samples-requires c κs = held (at (c .before .before)) .whole
-
 returns-4 : tie.Need-returns-4
 returns-4 c =
-    let h = c .before .before .before .before in
-    from h ∙ not-covered (t h) (wanted h) (entries h) (patterns (at h)) (omega (arith, c .if1 .taken, c .before .count-samples .ensures .0))
+    let h = c .before .before .before in
+    from h ∙ not-covered (t h) (wanted h) (entries h) (patterns (at h)) (omega (arith, c .if1 .taken, covers (rows h)))
 
 entry-marks-requires : tie.Need-entry-marks-requires
-entry-marks-requires c κs = whole (c .before .before .before .before)
+entry-marks-requires c κs = whole (c .before .before .before)
 
 search-table-requires : tie.Need-search-table-requires
 search-table-requires c κs =
-    let h = c .before .before .before .before .before .before in
-    (held (at h) .whole, whole h, c .before .entry-marks .ensures, omega (arith, c .before .before .before .before .struct-known .given))
+    let h = c .before .before .before .before .before in
+    (held (at h) .whole, whole h, c .before .entry-marks .ensures, omega (arith, c .before .before .before .struct-known .given))
 
 enum-known-b : tie.Need-enum-known-b
 enum-known-b c = search needs
@@ -207,7 +209,7 @@ cast-t31 c =
     let b = c .before .before .before .before in
     let known = c .before .latest .given in
     let greatest = found b (some (known .0 .0)) (ap toldLatest (known .1)) .1 in
-    omega (arith, begins-early (greatest .holds), c .before .before .before .before .before .before .before .before .before .before .before .struct-known .given)
+    omega (arith, begins-early (greatest .holds), c .before .before .before .before .before .before .before .before .before .before .struct-known .given)
 
 returns-6 : tie.Need-returns-6
 returns-6 c =
@@ -230,7 +232,8 @@ start-in-spec =
     enum-known-t
     enum-known-n
     returns
-    count-rows-requires
+    count-samples-requires
+    check-counts-requires
     enum-known-n-2
     returns-2
     enum-told
@@ -239,7 +242,6 @@ start-in-spec =
     enum-known-n-3
     returns-3
     cast-wanted
-    count-samples-requires
     returns-4
     entry-marks-requires
     search-table-requires
