@@ -1,8 +1,12 @@
 -- The walk's refusals; else the payloads that it found stand in the body, and the listing is that of `list_payloads`.
-use mathlib.Core.Path.{_≡_, refl, ap, sym, _∙_}
+use mathlib.Core.Path.{_≡_}
 use Prim.Native.Nat.{ℕ, _+_, _-_}
 use native.Mathlib.Omega.{arith}
 use borrow.Author.Needs.{needs}
+use Rattle.base_fields.specs.Answer.{given}
+use Rattle.listing_spec.specs.Walk.{sources}
+use Rattle.listing_walk.specs.Told.{sourcesOf}
+use Rattle.listing_walk.specs.declared.SourcesAt.{SourcesAt}
 use Rattle.listing_walk.proofs.Stand.{table-stands, sgpd-stands}
 use Rattle.listing_cue.proofs.From.{walk-refused, walk-found}
 use Rattle.listing_cue.proofs.Listed.{gives-refused}
@@ -12,6 +16,17 @@ use Rattle.listing_cue.proofs.cue_listing.Tie as tie
 -- a part as it is cut
 cut : (place size : ℕ) → place + size - place ≡ size
 cut place size = omega arith
+
+-- where the parts are found
+module _ (c : tie.After-f) where
+  abbrev start : tie.Start
+  start = c .before .before .before .before .before .before
+
+  abbrev at : SourcesAt
+  at = c .f .given .0 .0
+
+  found : given (sourcesOf at) ≡ sources (start .args .body .now) (start .args .grouping-type)
+  found = rw (c .f .given .1) at (c .before .before .find-sources .ensures)
 
 find-sources-requires : tie.Need-find-sources-requires
 find-sources-requires c κs = search needs
@@ -24,25 +39,20 @@ enum-known-n c = search needs
 
 returns : tie.Need-returns
 returns c =
-    let start = c .before .before .before .before .before .before .before in
-    let a = start .args in
+    let a = c .before .before .before .before .before .before .before .args in
     gives-refused _ _ _ (walk-refused (a .body .now) (a .grouping-type) _ _ (rw (c .before .n .given .1) at (c .before .before .before .find-sources .ensures)))
 
 add-table-end : tie.Need-add-table-end
 add-table-end c =
-    let start = c .before .before .before .before .before .before .before .before in
-    let a = start .args in
-    let found = rw (c .before .before .f .given .1) at (c .before .before .before .before .find-sources .ensures) in
-    let f = c .before .before .f .given .0 .0 in
-    omega (arith, table-stands (a .body .now) (a .grouping-type) f found .inside, start .good .0)
+    let f = c .before .before in
+    let a = start f .args in
+    omega (arith, table-stands (a .body .now) (a .grouping-type) (at f) (found f) .inside, start f .good .0)
 
 add-sgpd-end : tie.Need-add-sgpd-end
 add-sgpd-end c =
-    let start = c .before .before .before .before .before .before .before .before .before in
-    let a = start .args in
-    let found = rw (c .before .before .before .f .given .1) at (c .before .before .before .before .before .find-sources .ensures) in
-    let f = c .before .before .before .f .given .0 .0 in
-    omega (arith, sgpd-stands (a .body .now) (a .grouping-type) f found .inside, start .good .0)
+    let f = c .before .before .before in
+    let a = start f .args in
+    omega (arith, sgpd-stands (a .body .now) (a .grouping-type) (at f) (found f) .inside, start f .good .0)
 
 sub-list-payloads : tie.Need-sub-list-payloads
 sub-list-payloads c = search needs
@@ -52,11 +62,9 @@ part-list-payloads-start c = search needs
 
 part-list-payloads-end : tie.Need-part-list-payloads-end
 part-list-payloads-end c =
-    let start = c .before .before .before .before .before .before .before .before .before in
-    let a = start .args in
-    let found = rw (c .before .before .before .f .given .1) at (c .before .before .before .before .before .find-sources .ensures) in
-    let f = c .before .before .before .f .given .0 .0 in
-    table-stands (a .body .now) (a .grouping-type) f found .inside
+    let f = c .before .before .before in
+    let a = start f .args in
+    table-stands (a .body .now) (a .grouping-type) (at f) (found f) .inside
 
 sub-list-payloads-2 : tie.Need-sub-list-payloads-2
 sub-list-payloads-2 c = search needs
@@ -66,11 +74,9 @@ part-list-payloads-start-2 c = search needs
 
 part-list-payloads-end-2 : tie.Need-part-list-payloads-end-2
 part-list-payloads-end-2 c =
-    let start = c .before .before .before .before .before .before .before .before .before .before in
-    let a = start .args in
-    let found = rw (c .before .before .before .before .f .given .1) at (c .before .before .before .before .before .before .find-sources .ensures) in
-    let f = c .before .before .before .before .f .given .0 .0 in
-    sgpd-stands (a .body .now) (a .grouping-type) f found .inside
+    let f = c .before .before .before .before in
+    let a = start f .args in
+    sgpd-stands (a .body .now) (a .grouping-type) (at f) (found f) .inside
 
 list-payloads-requires : tie.Need-list-payloads-requires
 list-payloads-requires c κs = search needs
@@ -83,12 +89,10 @@ same-length-2 c = search needs
 
 returns-2 : tie.Need-returns-2
 returns-2 c =
-    let start = c .before .before .before .before .before .before .before .before .before .before .before .before .before .before .before .before .before .before in
-    let a = start .args in
-    let found = rw (c .before .before .before .before .before .before .before .before .before .before .before .before .f .given .1) at (c .before .before .before .before .before .before .before .before .before .before .before .before .before .before .find-sources .ensures) in
-    let f = c .before .before .before .before .before .before .before .before .before .before .before .before .f .given .0 .0 in
-    let listed = rw (cut (f .«table_place») (f .«table_size»), cut (f .«sgpd_place») (f .«sgpd_size»)) at (c .before .before .before .before .list-payloads .ensures) in
-    rw (walk-found (a .body .now) (a .grouping-type) _ _ f found) listed
+    let f = c .before .before .before .before .before .before .before .before .before .before .before .before in
+    let a = start f .args in
+    let listed = rw (cut (at f .«table_place») (at f .«table_size»), cut (at f .«sgpd_place») (at f .«sgpd_size»)) at (c .before .before .before .before .list-payloads .ensures) in
+    rw (walk-found (a .body .now) (a .grouping-type) _ _ (at f) (found f)) listed
 
 pub cue-listing-spec : {M : Type 1} → statement M
 cue-listing-spec =

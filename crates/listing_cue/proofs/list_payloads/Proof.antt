@@ -1,20 +1,63 @@
 -- The stages in their order: the table's structure, its rows, the descriptions; then `list_samples`.
-use mathlib.Core.Path.{_≡_, ap, sym, _∙_}
+use mathlib.Core.Path.{_≡_, sym, _∙_}
+use mathlib.Core.List.{List}
+use Prim.Native.Nat.{ℕ}
 use lib.ListN.{length}
 use borrow.Author.Needs.{needs}
-use Rattle.base_fields.specs.Answer.{given}
+use Rattle.base_fields.specs.Answer.{Answer, given}
 use Rattle.base_fields.proofs.Answers.{given-inj, given-first, refused-first}
 use Rattle.group_sgpd.specs.Sgpd.{sgpd}
-use Rattle.group_sgpd.specs.Head.{headOf}
+use Rattle.group_sgpd.specs.Head.{headOf, ReadWhole}
 use Rattle.group_sgpd.proofs.Onward.{read-whole}
-use Rattle.table_rows.specs.Row.{recordsIn}
-use Rattle.table_records.specs.Lent.{tableFrom}
+use Rattle.table_rows.specs.Row.{Table, recordsIn}
+use Rattle.table_records.specs.Lent.{parsedAs, tableFrom}
 use Rattle.table_records.proofs.Lent.{parsed-from, refused-parsed}
+use Rattle.table_runs.specs.Ahead.{Held}
+use Rattle.table_runs.specs.declared.SampleTable.{SampleTable}
 use Rattle.listing_meanings.proofs.Found.{entries-are}
 use Rattle.listing_cue.proofs.From.{from-table, from-entries, from-listed}
 use Rattle.listing_cue.proofs.Listed.{gives-refused}
 use Rattle.listing_cue.proofs.list_payloads.Statement.{statement}
 use Rattle.listing_cue.proofs.list_payloads.Tie as tie
+
+-- a table that was read
+module _ (c : tie.After-t) where
+  abbrev start : tie.Start
+  start = c .before .before .before .before .before .before .before
+
+  abbrev ts : List ℕ
+  ts = start .args .table-s .now
+
+  abbrev room : ℕ
+  room = recordsIn (start .args .rows .now)
+
+  abbrev table : SampleTable
+  table = c .t .given .0 .0
+
+  held : Held (start .args .kind) ts table
+  held = rw (c .t .given .1) at (c .before .before .read-table .ensures)
+
+  same : parsedAs (start .args .kind) ts room ≡ tableFrom ts table room
+  same = parsed-from (start .args .kind) ts table room (held .kind)
+
+-- whose rows were counted
+module _ (c : tie.After-n2) where
+  abbrev read : tie.After-t
+  read = c .before .before .before .before
+
+  made : (x : Table) × (tableFrom (ts read) (table read) (room read) ≡ given x) × (_≡_ {A = Answer ℕ} (given (length (x .rows))) (given (c .n2 .given .0 .0)))
+  made = given-first (tableFrom (ts read) (table read) (room read)) (λ t. given (length (t .rows))) (sym (rw (c .n2 .given .1) at (c .before .before .count-rows .ensures)))
+
+-- and the descriptions
+module _ (c : tie.After-h) where
+  abbrev rows : tie.After-n2
+  rows = c .before .before .before .before
+
+  abbrev at : tie.After-t
+  at = read rows
+
+  whole : ReadWhole (start at .args .s .now) (c .h .given .0 .0)
+  whole = read-whole (start at .args .s .now) (sym (rw (c .h .given .1) at (c .before .before .read-sgpd .ensures)))
 
 read-table-requires : tie.Need-read-table-requires
 read-table-requires c κs = search needs
@@ -33,8 +76,7 @@ returns c =
     (from-table (a .kind) (a .table-s .now) _ _ _ _ (refused-parsed (a .kind) (a .table-s .now) _ (rw (c .before .n .given .1) at (c .before .before .before .read-table .ensures))))
 
 count-rows-requires : tie.Need-count-rows-requires
-count-rows-requires c κs =
-    rw (c .before .t .given .1) at (c .before .before .before .read-table .ensures) .laid
+count-rows-requires c κs = held (c .before) .laid
 
 enum-known-n-2 : tie.Need-enum-known-n-2
 enum-known-n-2 c = search needs
@@ -44,13 +86,10 @@ enum-known-n-3 c = search needs
 
 returns-2 : tie.Need-returns-2
 returns-2 c =
-    let start = c .before .before .before .before .before .before .before .before .before .before .before .before in
-    let a = start .args in
-    let held = rw (c .before .before .before .before .before .t .given .1) at (c .before .before .before .before .before .before .before .read-table .ensures) in
-    let room = recordsIn (a .rows .now) in
-    let same = parsed-from (a .kind) (a .table-s .now) _ room (held .kind) in
+    let at = c .before .before .before .before .before in
+    let a = start at .args in
     let counted = rw (c .before .n3 .given .1) at (c .before .before .before .count-rows .ensures) in
-    gives-refused _ _ _ (from-table (a .kind) (a .table-s .now) _ _ room _ (same ∙ refused-first _ (λ t. length (t .rows)) (sym counted)))
+    gives-refused _ _ _ (from-table (a .kind) (ts at) _ _ (room at) _ (same at ∙ refused-first _ (λ t. length (t .rows)) (sym counted)))
 
 read-sgpd-requires : tie.Need-read-sgpd-requires
 read-sgpd-requires c κs = search needs
@@ -63,28 +102,17 @@ enum-known-n-4 c = search needs
 
 returns-3 : tie.Need-returns-3
 returns-3 c =
-    let start = c .before .before .before .before .before .before .before .before .before .before .before .before .before .before .before .before in
-    let a = start .args in
-    let held = rw (c .before .before .before .before .before .before .before .before .before .t .given .1) at (c .before .before .before .before .before .before .before .before .before .before .before .read-table .ensures) in
-    let room = recordsIn (a .rows .now) in
-    let same = parsed-from (a .kind) (a .table-s .now) _ room (held .kind) in
-    let counted = rw (c .before .before .before .before .before .n2 .given .1) at (c .before .before .before .before .before .before .before .count-rows .ensures) in
-    let x = given-first (tableFrom (a .table-s .now) (c .before .before .before .before .before .before .before .before .before .t .given .0 .0) room) (λ t. given (length (t .rows))) (sym counted) in
-    let read = rw (c .before .n4 .given .1) at (c .before .before .before .read-sgpd .ensures) in
-    let none = refused-first (sgpd (a .s .now)) (λ es. headOf (a .s .now)) (sym read) in
-    gives-refused _ _ _ (from-entries (a .kind) (a .table-s .now) (a .s .now) _ room _ (same ∙ x .1) (rw none))
+    let rows = c .before .before .before .before .before in
+    let at = read rows in
+    let a = start at .args in
+    let told = rw (c .before .n4 .given .1) at (c .before .before .before .read-sgpd .ensures) in
+    let none = refused-first (sgpd (a .s .now)) (λ es. headOf (a .s .now)) (sym told) in
+    gives-refused _ _ _ (from-entries (a .kind) (ts at) (a .s .now) _ (room at) _ {x = made rows .0} (same at ∙ made rows .1) (rw none))
 
 list-samples-requires : tie.Need-list-samples-requires
 list-samples-requires c κs =
-    let start = c .before .before .before .before .before .before .before .before .before .before .before .before .before .before .before .before .before .before in
-    let a = start .args in
-    let held = rw (c .before .before .before .before .before .before .before .before .before .before .before .t .given .1) at (c .before .before .before .before .before .before .before .before .before .before .before .before .before .read-table .ensures) in
-    let room = recordsIn (a .rows .now) in
-    let same = parsed-from (a .kind) (a .table-s .now) _ room (held .kind) in
-    let counted = rw (c .before .before .before .before .before .before .before .n2 .given .1) at (c .before .before .before .before .before .before .before .before .before .count-rows .ensures) in
-    let x = given-first (tableFrom (a .table-s .now) (c .before .before .before .before .before .before .before .before .before .before .before .t .given .0 .0) room) (λ t. given (length (t .rows))) (sym counted) in
-    let w = read-whole (a .s .now) (sym (rw (c .before .before .before .h .given .1) at (c .before .before .before .before .before .read-sgpd .ensures))) in
-    ((held .whole, held .laid, w), (x .0, x .1, given-inj (x .2)))
+    let h = c .before .before .before in
+    ((held (at h) .whole, held (at h) .laid, whole h), (made (rows h) .0, made (rows h) .1, given-inj (made (rows h) .2)))
 
 same-length : tie.Need-same-length
 same-length c = search needs
@@ -94,17 +122,11 @@ same-length-2 c = search needs
 
 returns-4 : tie.Need-returns-4
 returns-4 c =
-    let start = c .before .before .before .before .before .before .before .before .before .before .before .before .before .before .before .before .before .before .before .before .before .before .before in
-    let a = start .args in
-    let held = rw (c .before .before .before .before .before .before .before .before .before .before .before .before .before .before .before .before .t .given .1) at (c .before .before .before .before .before .before .before .before .before .before .before .before .before .before .before .before .before .before .read-table .ensures) in
-    let room = recordsIn (a .rows .now) in
-    let same = parsed-from (a .kind) (a .table-s .now) _ room (held .kind) in
-    let counted = rw (c .before .before .before .before .before .before .before .before .before .before .before .before .n2 .given .1) at (c .before .before .before .before .before .before .before .before .before .before .before .before .before .before .count-rows .ensures) in
-    let x = given-first (tableFrom (a .table-s .now) (c .before .before .before .before .before .before .before .before .before .before .before .before .before .before .before .before .t .given .0 .0) room) (λ t. given (length (t .rows))) (sym counted) in
-    let w = read-whole (a .s .now) (sym (rw (c .before .before .before .before .before .before .before .before .h .given .1) at (c .before .before .before .before .before .before .before .before .before .before .read-sgpd .ensures))) in
-    let entries = entries-are w 0 in
-    rw (from-listed (a .kind) (a .table-s .now) (a .s .now) (a .grouping-type) room (length (a .out .now)) (same ∙ x .1) entries (held .patterns))
-    (c .before .before .before .before .list-samples .ensures .gives (x .0) _ (x .1) entries)
+    let h = c .before .before .before .before .before .before .before .before in
+    let a = start (at h) .args in
+    let entries = entries-are (whole h) 0 in
+    rw (from-listed (a .kind) (ts (at h)) (a .s .now) (a .grouping-type) (room (at h)) (length (a .out .now)) {x = made (rows h) .0} (same (at h) ∙ made (rows h) .1) entries (held (at h) .patterns))
+    (c .before .before .before .before .list-samples .ensures .gives (made (rows h) .0) _ (made (rows h) .1) entries)
 
 pub list-payloads-spec : {M : Type 1} → statement M
 list-payloads-spec =
