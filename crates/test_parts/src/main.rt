@@ -50,13 +50,15 @@ fn refusal(film: &[u8], fragment: &[u8], raw: u32) -> u32 {
     }
 }
 
-fn main() {
+fn runs() {
     let sbgp =
         b"\x00\x00\x00\x00rap \x00\x00\x00\x02\x00\x00\x00\x03\x00\x00\x00\x01\x00\x00\x00\x02\x00\x00\x00\x09";
-    let csgp = b"\x00\x00\x00\x00rap \x00\x00\x00\x02\x12\x23\x55\x60";
-    let film = b"\x00\x00\x00\x00abcd\x00\x00\x00\x03abcdefghi";
     tell(b"run of an sbgp", first_run_is(sbgp, TableKind::Sbgp, 3, 1));
+    let csgp = b"\x00\x00\x00\x00rap \x00\x00\x00\x02\x12\x23\x55\x60";
     tell(b"run of a csgp", first_run_is(csgp, TableKind::Csgp, 2, 5));
+}
+
+fn parts(film: &[u8]) {
     tell(
         b"entry",
         is_two(group_sgpd::entry(film, DescriptionIndex(2)), 0x64, 0x65),
@@ -74,12 +76,22 @@ fn main() {
             0x75,
         ),
     );
+}
+
+fn refusals() {
     let short = b"\x00\x00\x00\x00abcd\x00\x00\x00";
     let cut = b"\x02\x00\x00\x00abcd\x00\x00\x00\x00";
     tell(
         b"the film's refusal first",
         refusal(short, cut, 0x8000_0001) == 30,
     );
+}
+
+fn main() {
+    let film = b"\x00\x00\x00\x00abcd\x00\x00\x00\x03abcdefghi";
+    runs();
+    parts(film);
+    refusals();
     tell(
         b"no entry",
         group_sgpd::entry(film, DescriptionIndex(4)).len() == 0,
