@@ -2,4 +2,5 @@ pub mod Answers
 pub mod Bytes
 pub mod Bits
 pub mod Numbered
+pub mod Records
 pub mod Firm

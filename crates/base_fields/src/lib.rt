@@ -10,6 +10,12 @@ ghost use Rattle.base_fields.specs.Number.{beAt, bitsAt};
 // The longest input that is taken, in bytes.
 pub const INPUT_LIMIT: usize = 67108864;
 
+// How many records of two numbers each were written in front of a lent run.
+pub enum FilledRun {
+    Records(u32),
+    Refused(u32),
+}
+
 pub fn read_u8(s: &[u8], at: usize) -> u8
     requires { ⌜ at + 1 ≤ length (now s) ⌝ }
     ensures { λ r. ⌜ (r ≡ beAt 1 (now (s .entry)) at) × (r < 256) ⌝ }

@@ -4,8 +4,10 @@ use Prim.Native.Nat.{ℕ}
 use mathlib.Core.Path.{_≡_}
 use mathlib.Core.Bool.{Bool, true, false}
 use mathlib.Core.List.{List, [], _∷_}
+use lib.ListN.{length}
 use lib.Seq.{sets}
-use Rattle.base_fields.specs.Answer.{Answer, given, none, refused}
+use Rattle.base_fields.specs.Answer.{Answer, given, none, refused, andThen, overwritten}
+use Rattle.base_fields.specs.Records.{numbersOf}
 use Rattle.base_fields.specs.Span.{Span}
 
 abbrev pub statusOf : {A : Type 0} → Answer A → ℕ
@@ -25,6 +27,11 @@ pub record Returns {A N : Type 0} (told : Answer A) (numbers : A → List N) (be
 
 abbrev pub oneNumber : ℕ → List ℕ
 oneNumber n = n ∷ []
+
+-- the status, and in `out` how many values there are; their numbers, two of each, in front of the lent run, or the run as it was
+pub record FillsRecords {A : Type 0} (told : Answer (List A)) (f g : A → ℕ) (run run′ out out′ : List ℕ) (r : ℕ) : Type 0 where
+  pub returned : Returns (andThen told (λ l. given (length l))) oneNumber out out′ r
+  pub filled : run′ ≡ overwritten (numbersOf f g) told run
 
 -- place and length of a body
 abbrev pub bodyNumbers : Span → List ℕ

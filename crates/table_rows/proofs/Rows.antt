@@ -1,12 +1,12 @@
 -- Laws of the records in a run of numbers: from a place on, and of numbers that were rows.
 use mathlib.Core.Path.{_≡_, refl, _∙_}
-use Prim.Native.Nat.{ℕ, suc, _+_, _-_, _*_, _<_, _≤_}
-use native.Mathlib.Numerals.{add-one}
+use Prim.Native.Nat.{ℕ, _+_, _-_, _*_, _<_, _≤_}
 use native.Mathlib.Omega.{arith}
-use mathlib.Core.List.{List, [], _∷_, _++_, append-nil, append-assoc}
+use mathlib.Core.List.{List, [], _∷_, _++_, append-nil}
 use lib.ListN.{length, getD, drop, set, length-drop, length-append}
-use lib.Seq.{drop-cons, set-at}
 use borrow.Author.Tests.{lt-ltb, le-ltb}
+use Rattle.base_fields.specs.Records.{numbersOf}
+use Rattle.base_fields.proofs.Records.{drop-two, numbers-length, numbers-append, put-next}
 use Rattle.table_rows.specs.Row.{Row, rowsOf, flat, covered, indexAt}
 
 -- a run of fewer than two numbers has no record
@@ -17,16 +17,10 @@ rows-none (c ∷ []) h = refl
 rows-none (c ∷ i ∷ l) h = absurd (omega arith)
 
 module _ (l : List ℕ) (i : ℕ) (h : i + 1 < length l) where
-  pub drop-two : drop i l ≡ getD l i 0 ∷ getD l (i + 1) 0 ∷ drop (i + 2) l
-  drop-two =
-      let e : suc (i + 1) ≡ i + 2 = omega arith in
-      let b : i < length l = omega arith in
-      rw (drop-cons l i 0 b, ← add-one i, drop-cons l (i + 1) 0 h, e)
-
   -- the record at place i, and those behind it
   pub rows-first : rowsOf (drop i l) ≡ record { count = getD l i 0; index = getD l (i + 1) 0 } ∷ rowsOf (drop (i + 2) l)
   unfolding rowsOf
-  rows-first = rw drop-two
+  rows-first = rw (drop-two l i h)
 
   pub index-first : (k : ℕ) → k < getD l i 0 → indexAt (rowsOf (drop i l)) k ≡ getD l (i + 1) 0
   unfolding indexAt
@@ -52,15 +46,17 @@ module _ (l : List ℕ) (i : ℕ) (h : length l ≤ i + 1) where
   unfolding covered
   covered-end = rw rows-end refl
 
+-- rows are records of a count and an index
+flat-is : (rs : List Row) → flat rs ≡ numbersOf (λ r. r .count) (λ r. r .index) rs
+unfolding flat numbersOf
+flat-is [] = refl
+flat-is (r ∷ rs) = rw (flat-is rs)
+
 pub flat-length : (rs : List Row) → length (flat rs) ≡ 2 * length rs
-unfolding flat
-flat-length [] = refl
-flat-length (r ∷ rs) = omega (arith, flat-length rs)
+flat-length rs = rw (flat-is rs) (numbers-length _ _ rs)
 
 pub flat-append : (rs ts : List Row) → flat (rs ++ ts) ≡ flat rs ++ flat ts
-unfolding flat
-flat-append [] ts = refl
-flat-append (r ∷ rs) ts = rw (flat-append rs ts)
+flat-append rs ts = rw (flat-is (rs ++ ts), flat-is rs, flat-is ts) (numbers-append _ _ rs ts)
 
 -- the records of rows and then other numbers
 pub rowsOf-append : (rs : List Row) (t : List ℕ) → rowsOf (flat rs ++ t) ≡ rs ++ rowsOf t
@@ -82,15 +78,4 @@ front-length rs l h = simp (length-append, flat-length, length-drop) (omega arit
 -- one row more, written behind them
 pub front-put : (rs : List Row) (r : Row) (l : List ℕ) → 2 * length rs + 1 < length l →
     set (set (front rs l) (2 * length rs) (r .count)) (2 * length rs + 1) (r .index) ≡ front (rs ++ (r ∷ [])) l
-unfolding flat
-front-put rs r l h =
-    let n = 2 * length rs in
-    let a = getD l n 0 in
-    let b = getD l (n + 1) 0 in
-    let t = drop (n + 2) l in
-    let one : set (flat rs ++ a ∷ b ∷ t) n (r .count) ≡ flat rs ++ r .count ∷ b ∷ t = set-at (flat rs) a (b ∷ t) (r .count) n (flat-length rs) in
-    let g : length (flat rs ++ (r .count ∷ [])) ≡ n + 1 = simp (length-append, flat-length) (omega arith) in
-    let two : set ((flat rs ++ (r .count ∷ [])) ++ b ∷ t) (n + 1) (r .index) ≡ (flat rs ++ (r .count ∷ [])) ++ r .index ∷ t =
-    set-at (flat rs ++ (r .count ∷ [])) b t (r .index) (n + 1) g in
-    let m : 2 * length (rs ++ (r ∷ [])) ≡ n + 2 = simp length-append (omega arith) in
-    rw (drop-two l n h, one, m, flat-append) (simp append-assoc (simp append-assoc at two))
+front-put rs r l h = rw (flat-is rs, flat-is (rs ++ (r ∷ []))) (put-next _ _ rs r l h)
