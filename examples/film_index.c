@@ -136,7 +136,16 @@ static void descriptions(void) {
     expect("film_entry_place", film_entry_place(sgpd, 18, 2, place), FILM_NONE);
     expect("film_entry_place", film_entry_place(sgpd, 17, 1, place), FILM_ENTRY_CUT);
 
-    expect("film_split_csgp_index", film_split_csgp_index(0x80000001u, split), FILM_OK);
+    uint32_t places[4] = {7, 7, 7, 7};
+    uint64_t count[1];
+    expect("film_entry_places", film_entry_places(sgpd, 18, places, 1, count), FILM_NO_RECORD_LEFT);
+    expect("film_entry_places", places[0], 7);
+    expect("film_entry_places", film_entry_places(sgpd, 18, places, 4, count), FILM_OK);
+    expect("film_entry_places", count[0], 1);
+    expect("film_entry_places", places[0] * 1000 + places[1], 16002);
+    expect("film_entry_places", places[2] * 1000 + places[3], 7007);
+
+    film_split_csgp_index(0x80000001u, split);
     expect("film_split_csgp_index", split[0], 1);
     expect("film_split_csgp_index", split[1], 1);
     expect("film_described_place", film_described_place(sgpd, 18, sgpd, 18, 0x80000001u, part), FILM_OK);
@@ -173,6 +182,13 @@ static void entries(void) {
     expect("film_rash_operation_point", film_rash_operation_point(rash, sizeof rash, 0, out), FILM_OK);
     expect("film_rash_operation_point", out[0] * 1000 + out[1], 7);
     expect("film_rash_operation_point", film_rash_operation_point(rash, sizeof rash, 1, out), FILM_NONE);
+    uint32_t points[4] = {7, 7, 7, 7};
+    expect("film_rash_operation_points", film_rash_operation_points(rash, sizeof rash, points, 1, out), FILM_NO_RECORD_LEFT);
+    expect("film_rash_operation_points", points[0], 7);
+    expect("film_rash_operation_points", film_rash_operation_points(rash, sizeof rash, points, 4, out), FILM_OK);
+    expect("film_rash_operation_points", out[0], 1);
+    expect("film_rash_operation_points", points[0] * 1000 + points[1], 7);
+    expect("film_rash_operation_points", points[2] * 1000 + points[3], 7007);
     expect("film_decode_alst", film_decode_alst(alst, sizeof alst, out), FILM_OK);
     const uint64_t startup[3] = {1, 6, 1};
     expect_all("film_decode_alst", out, startup, 3);

@@ -2,12 +2,12 @@
  *
  * Every function reads what it is lent and keeps nothing. It ends on every input, and relies on no check by its caller.
  *
- * Status. Each function but film_rate_of_point returns a status:
+ * Status. Each function but film_rate_of_point and film_split_csgp_index returns a status:
  *   FILM_OK       the value is in `out`, which is then written whole;
  *   FILM_NONE     there is no such thing, or a walk is done;
  *   else          the number of a refusal (FILM_HEADER_CUT and so on): the first that applies.
  * Without FILM_OK nothing is written: `out`, rows, a listing, a body and every other lent byte stay as they were. No refusal is 0 or 255.
- * film_rate_of_point cannot fail and returns its value.
+ * film_rate_of_point cannot fail and returns its value; film_split_csgp_index cannot fail and returns nothing.
  *
  * Lent memory. `out` has the length that the declaration names. What one call is lent must not overlap where any of it is written. A pointer whose
  * length is 0 is not read: it may dangle, but it must not be null.
@@ -64,7 +64,7 @@ typedef uint64_t film_size;
 #define FILM_PATTERN_LENGTH_ZERO 26u
 #define FILM_INDEX_CUT 27u
 #define FILM_ROW_COUNT_OVER 28u        /* a row would cover more than 4,294,967,295 samples */
-#define FILM_NO_RECORD_LEFT 29u        /* more rows than records were lent */
+#define FILM_NO_RECORD_LEFT 29u        /* more rows, entries or points than records were lent */
 /* Refusals: group descriptions */
 #define FILM_SHORT_SGPD 30u            /* under 12 bytes; in the walk of a cue listing under 8 */
 #define FILM_NO_DEFAULT_INDEX 31u
@@ -172,6 +172,10 @@ uint32_t film_parse_sgpd(const uint8_t *s, film_size len, uint64_t out[5]);
  * out: place and length of the entry's bytes in the payload. */
 uint32_t film_entry_place(const uint8_t *s, film_size len, uint32_t index, uint64_t out[2]);
 
+/* All entries at once: place and length of each, in front of `places`, a run of `places_len` numbers, two to an entry; what stands behind them stays.
+ * FILM_NO_RECORD_LEFT, after the payload's own refusals, where it is too short. out: entry count. */
+uint32_t film_entry_places(const uint8_t *s, film_size len, uint32_t *places, film_size places_len, uint64_t out[1]);
+
 /* Typed entries. `s` is an entry's bytes. Points, offsets and pieces are counted from 0; the decoder's refusals come first, then FILM_NONE past the count. */
 uint32_t film_decode_roll(const uint8_t *s, film_size len, int64_t out[1]);  /* distance, signed */
 uint32_t film_decode_prol(const uint8_t *s, film_size len, int64_t out[1]);  /* distance, signed */
@@ -180,6 +184,11 @@ uint32_t film_decode_tele(const uint8_t *s, film_size len, uint64_t out[1]); /* 
 uint32_t film_decode_sap(const uint8_t *s, film_size len, uint64_t out[2]);  /* dependent, type */
 uint32_t film_decode_rash(const uint8_t *s, film_size len, uint64_t out[4]); /* points, maximum, minimum, priority */
 uint32_t film_rash_operation_point(const uint8_t *s, film_size len, uint32_t k, uint64_t out[2]); /* bitrate, share */
+
+/* All points at once: bitrate and share of each, in front of `points`, a run of `points_len` numbers, two to a point; what stands behind them stays.
+ * FILM_NO_RECORD_LEFT, after the decoder's refusals, where it is too short. out: point count. */
+uint32_t film_rash_operation_points(const uint8_t *s, film_size len, uint32_t *points, film_size points_len, uint64_t out[1]);
+
 uint32_t film_decode_alst(const uint8_t *s, film_size len, uint64_t out[3]); /* roll count, first output sample, pieces */
 uint32_t film_alst_sample_offset(const uint8_t *s, film_size len, uint32_t k, uint64_t out[1]); /* offset */
 uint32_t film_alst_piece(const uint8_t *s, film_size len, uint32_t k, uint64_t out[2]); /* output samples, total samples */
@@ -189,8 +198,8 @@ uint32_t film_decode_alike(uint32_t grouping_type, const uint8_t *a, film_size a
 
 /* Fragments. */
 
-/* A csgp index of a fragment. out: the index without bit 31, and that bit (1: the fragment's own description). Never refused. */
-uint32_t film_split_csgp_index(uint32_t raw, uint64_t out[2]);
+/* A csgp index of a fragment. out: the index without bit 31, and that bit (1: the fragment's own description). Never refused, so there is no status. */
+void film_split_csgp_index(uint32_t raw, uint64_t out[2]);
 
 /* The entry that such an index names, in the film-wide or the fragment's sgpd payload; FILM_NONE where the payload has no such entry.
  * out: 1 for the fragment's, place and length in that payload. */
@@ -198,8 +207,6 @@ uint32_t film_described_place(const uint8_t *film, film_size film_len, const uin
 
 /* The value bitrate * share / 100, rounded to the nearest; an exact half goes to the even number. */
 uint64_t film_rate_of_point(uint32_t bitrate, uint16_t share);
-
-/* Cue listing. */
 
 /* Sync and dependency tables. `s` is the body of an stss or of an sdtp. A sample is counted from 0. Each call checks all numbers of an stss. */
 
@@ -211,6 +218,8 @@ uint32_t film_last_sync_sample(const uint8_t *s, film_size len, uint32_t frame, 
 
 /* What the sdtp says of a sample; FILM_NONE past its last byte. out: is leading, depends on, is depended on, has redundancy, 0 to 3 each. */
 uint32_t film_sample_dependency(const uint8_t *s, film_size len, uint32_t sample, uint64_t out[4]);
+
+/* Cue listing. */
 
 /* The cue listing of one grouping type in `body`, the body of an stbl: the four type bytes, the number of samples that the type's table covers, and for each longest
  * stretch of samples of one meaning its length, its kind (0: no group, 1: an index past the entries, 2: an entry) and, for kind 2, the entry's decoded fields, or, for a

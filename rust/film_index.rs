@@ -107,6 +107,7 @@ pub mod raw {
         pub fn film_write_csgp(kind: u32, rows: *const u32, rows_len: usize, quoted: usize, body: *mut u8, body_len: usize, out: *mut [u64; 1]) -> u32;
         pub fn film_parse_sgpd(s: *const u8, len: usize, out: *mut [u64; 5]) -> u32;
         pub fn film_entry_place(s: *const u8, len: usize, index: u32, out: *mut [u64; 2]) -> u32;
+        pub fn film_entry_places(s: *const u8, len: usize, places: *mut u32, places_len: usize, out: *mut [u64; 1]) -> u32;
         pub fn film_decode_roll(s: *const u8, len: usize, out: *mut [i64; 1]) -> u32;
         pub fn film_decode_prol(s: *const u8, len: usize, out: *mut [i64; 1]) -> u32;
         pub fn film_decode_rap(s: *const u8, len: usize, out: *mut [u64; 2]) -> u32;
@@ -114,11 +115,12 @@ pub mod raw {
         pub fn film_decode_sap(s: *const u8, len: usize, out: *mut [u64; 2]) -> u32;
         pub fn film_decode_rash(s: *const u8, len: usize, out: *mut [u64; 4]) -> u32;
         pub fn film_rash_operation_point(s: *const u8, len: usize, k: u32, out: *mut [u64; 2]) -> u32;
+        pub fn film_rash_operation_points(s: *const u8, len: usize, points: *mut u32, points_len: usize, out: *mut [u64; 1]) -> u32;
         pub fn film_decode_alst(s: *const u8, len: usize, out: *mut [u64; 3]) -> u32;
         pub fn film_alst_sample_offset(s: *const u8, len: usize, k: u32, out: *mut [u64; 1]) -> u32;
         pub fn film_alst_piece(s: *const u8, len: usize, k: u32, out: *mut [u64; 2]) -> u32;
         pub fn film_decode_alike(kind: u32, a: *const u8, a_len: usize, b: *const u8, b_len: usize, out: *mut [u64; 1]) -> u32;
-        pub fn film_split_csgp_index(raw: u32, out: *mut [u64; 2]) -> u32;
+        pub fn film_split_csgp_index(raw: u32, out: *mut [u64; 2]);
         pub fn film_described_place(film: *const u8, film_len: usize, fragment: *const u8, fragment_len: usize, raw: u32, out: *mut [u64; 3]) -> u32;
         pub fn film_rate_of_point(bitrate: u32, share: u16) -> u64;
         pub fn film_is_sync_sample(s: *const u8, len: usize, sample: u32, out: *mut [u64; 1]) -> u32;
@@ -325,6 +327,18 @@ pub fn parse_sgpd(payload: &[u8]) -> Result<SampleGroupDescription> {
     })
 }
 
+type RunFiller = unsafe extern "C" fn(*const u8, usize, *mut u32, usize, *mut [u64; 1]) -> u32;
+
+fn fill(filler: RunFiller, payload: &[u8], records: &mut [[u32; 2]]) -> Result<usize> {
+    let [count] = value(|out| unsafe { filler(payload.as_ptr(), payload.len(), records.as_mut_ptr().cast(), 2 * records.len(), out) })?;
+    Ok(count as usize)
+}
+
+/// The place and the length of every entry of an sgpd payload, in front of the lent records; how many there are is told.
+pub fn entry_places(payload: &[u8], places: &mut [[u32; 2]]) -> Result<usize> {
+    fill(raw::film_entry_places, payload, places)
+}
+
 /// Entry `index`, counted from 1, of an sgpd payload; None for 0 and past the count.
 pub fn entry(payload: &[u8], index: u32) -> Result<Option<&[u8]>> {
     let told = call(|out| unsafe { raw::film_entry_place(payload.as_ptr(), payload.len(), index, out) })?;
@@ -408,6 +422,11 @@ pub struct RateShareOperationPoint {
     pub target_rate_share: u16,
 }
 
+/// The bitrate and the share of every point of a rash, in front of the lent records; how many there are is told.
+pub fn rash_operation_points(payload: &[u8], points: &mut [[u32; 2]]) -> Result<usize> {
+    fill(raw::film_rash_operation_points, payload, points)
+}
+
 /// Point `k` of a rash, counted from 0; None past the count.
 pub fn rash_operation_point(payload: &[u8], k: u32) -> Result<Option<RateShareOperationPoint>> {
     let told = call(|out| unsafe { raw::film_rash_operation_point(payload.as_ptr(), payload.len(), k, out) })?;
@@ -460,7 +479,9 @@ pub struct CsgpIndex {
 }
 
 pub fn split_csgp_index(raw: u32) -> CsgpIndex {
-    let [index, local] = value(|out| unsafe { raw::film_split_csgp_index(raw, out) }).expect("never refused");
+    let mut out = [0; 2];
+    unsafe { raw::film_split_csgp_index(raw, &raw mut out) };
+    let [index, local] = out;
     CsgpIndex { index: index as u32, fragment_local: local == 1 }
 }
 

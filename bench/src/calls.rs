@@ -15,6 +15,7 @@ unsafe extern "C" {
     pub fn film_covered_samples(rows: *const u32, rows_len: usize, out: *mut u64) -> u32;
     pub fn film_parse_sgpd(s: *const u8, len: usize, out: *mut u64) -> u32;
     pub fn film_entry_place(s: *const u8, len: usize, index: u32, out: *mut u64) -> u32;
+    pub fn film_entry_places(s: *const u8, len: usize, places: *mut u32, places_len: usize, out: *mut u64) -> u32;
     pub fn film_decode_roll(s: *const u8, len: usize, out: *mut u64) -> u32;
     pub fn film_decode_prol(s: *const u8, len: usize, out: *mut u64) -> u32;
     pub fn film_decode_rap(s: *const u8, len: usize, out: *mut u64) -> u32;
@@ -22,11 +23,12 @@ unsafe extern "C" {
     pub fn film_decode_sap(s: *const u8, len: usize, out: *mut u64) -> u32;
     pub fn film_decode_rash(s: *const u8, len: usize, out: *mut u64) -> u32;
     pub fn film_rash_operation_point(s: *const u8, len: usize, k: u32, out: *mut u64) -> u32;
+    pub fn film_rash_operation_points(s: *const u8, len: usize, points: *mut u32, points_len: usize, out: *mut u64) -> u32;
     pub fn film_decode_alst(s: *const u8, len: usize, out: *mut u64) -> u32;
     pub fn film_alst_sample_offset(s: *const u8, len: usize, k: u32, out: *mut u64) -> u32;
     pub fn film_alst_piece(s: *const u8, len: usize, k: u32, out: *mut u64) -> u32;
     pub fn film_decode_alike(kind: u32, a: *const u8, a_len: usize, b: *const u8, b_len: usize, out: *mut u64) -> u32;
-    pub fn film_split_csgp_index(raw: u32, out: *mut u64) -> u32;
+    pub fn film_split_csgp_index(raw: u32, out: *mut u64);
     pub fn film_described_place(film: *const u8, film_len: usize, fragment: *const u8, fragment_len: usize, raw: u32, out: *mut u64) -> u32;
     pub fn film_rate_of_point(bitrate: u32, share: u16) -> u64;
     pub fn film_cue_listing(body: *const u8, len: usize, kind: u32, rows: *mut u32, rows_len: usize, listing: *mut u8, listing_len: usize, out: *mut u64) -> u32;

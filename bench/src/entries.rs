@@ -30,7 +30,7 @@ impl Bench {
         self.rust(name, || drop(black_box(rust(&s).unwrap())));
     }
 
-    /// A part of an entry by its number, where the Rust decodes the entry and takes the part; and all parts, where it keeps what it decoded.
+    /// A part of an entry by its number, where the Rust decodes the entry and takes the part.
     fn by_number<T, P>(&mut self, name: &str, s: Vec<u8>, ours: Numbered, rust: fn(&[u8]) -> standalone::Result<T>, parts: fn(&T) -> &[P]) {
         let (s, rust, parts) = (black_box(s), black_box(rust), black_box(parts));
         let count = parts(&rust(&s).unwrap()).len();
@@ -38,9 +38,31 @@ impl Bench {
         let mut out = [0; 2];
         self.ours(&one, || drop(numbered_into(ours, &s, black_box(count as u32 / 2), &mut out)));
         self.rust(&one, || drop(black_box(&parts(&rust(&s).unwrap())[black_box(count / 2)])));
+    }
+
+    /// All parts of an entry, one after the other, where the Rust keeps what it decoded.
+    fn each<T, P>(&mut self, name: &str, s: Vec<u8>, ours: Numbered, rust: fn(&[u8]) -> standalone::Result<T>, parts: fn(&T) -> &[P]) {
+        let (s, rust, parts) = (black_box(s), black_box(rust), black_box(parts));
+        let count = parts(&rust(&s).unwrap()).len();
+        let mut out = [0; 2];
         let all = format!("{name}, all {count}");
         self.ours(&all, || (0..count as u32).for_each(|k| drop(numbered_into(ours, &s, k, &mut out))));
         self.rust(&all, || parts(&rust(&s).unwrap()).iter().for_each(|p| drop(black_box(p))));
+    }
+
+    /// All parts of a payload in one call, then one after the other out of the lent run; the Rust decodes, and keeps what it decoded.
+    fn filled<T, P>(&mut self, name: &str, s: Vec<u8>, ours: Parser, rust: fn(&[u8]) -> standalone::Result<T>, parts: fn(&T) -> &[P]) {
+        let (s, rust, parts) = (black_box(s), black_box(rust), black_box(parts));
+        let count = parts(&rust(&s).unwrap()).len();
+        let mut run = vec![0; 2 * count];
+        let mut out = [0; 3];
+        let name = format!("{name}, all {count}");
+        self.ours(&name, || {
+            assert_eq!(black_box(unsafe { ours(s.as_ptr(), s.len(), run.as_mut_ptr(), run.len(), out.as_mut_ptr()) }), 0);
+            run.chunks_exact(2).for_each(|p| drop(black_box(p)));
+        });
+        assert_eq!(out[0], count as u64);
+        self.rust(&name, || parts(&rust(&s).unwrap()).iter().for_each(|p| drop(black_box(p))));
     }
 
     fn atoms(&mut self) {
@@ -139,12 +161,7 @@ impl Bench {
                 self.ours(&name, || drop(numbered_into(film_entry_place, &s, black_box(index), &mut out)));
                 self.rust(&name, || drop(black_box(entry(&parsed(&s).unwrap(), black_box(index)))));
             }
-            let name = format!("entry_place, all 1,000, {kind}");
-            self.ours(&name, || (1..=1000).for_each(|k| drop(numbered_into(film_entry_place, &s, k, &mut out))));
-            self.rust(&name, || {
-                let kept = parsed(&s).unwrap();
-                (1..=1000).for_each(|k| drop(black_box(entry(&kept, k))));
-            });
+            self.filled(&format!("entry_places, {kind}"), s.clone(), film_entry_places, parse_sgpd, |d| &d.entries);
             let split = black_box(split_csgp_index as fn(u32) -> CsgpIndex);
             for (side, raw) in [("film-wide", 1000), ("fragment's", 0x8000_0000 | 1000)] {
                 let name = format!("described_place, {side} 1,000, {kind}");
@@ -158,7 +175,7 @@ impl Bench {
         }
         let split = black_box(split_csgp_index as fn(u32) -> CsgpIndex);
         let mut out = [0; 2];
-        self.ours("split_csgp_index", || drop(black_box(unsafe { film_split_csgp_index(black_box(0x8000_0007), out.as_mut_ptr()) })));
+        self.ours("split_csgp_index", || unsafe { film_split_csgp_index(black_box(0x8000_0007), out.as_mut_ptr()) });
         self.rust("split_csgp_index", || drop(black_box(split(black_box(0x8000_0007)))));
         self.ours("rate_of_point", || drop(black_box(unsafe { film_rate_of_point(black_box(4_000_000_000), black_box(75)) })));
     }
@@ -172,8 +189,11 @@ impl Bench {
         self.beside("decode_rash, 100 points", rash(100), film_decode_rash, decode_rash);
         self.beside("decode_alst, 100 offsets, 50 pieces", alst(100, 50), film_decode_alst, decode_alst);
         self.by_number("rash_operation_point", rash(100), film_rash_operation_point, decode_rash, |r| &r.operation_points);
+        self.filled("rash_operation_points", rash(100), film_rash_operation_points, decode_rash, |r| &r.operation_points);
         self.by_number("alst_sample_offset", alst(100, 50), film_alst_sample_offset, decode_alst, |a| &a.sample_offsets);
+        self.each("alst_sample_offset", alst(100, 50), film_alst_sample_offset, decode_alst, |a| &a.sample_offsets);
         self.by_number("alst_piece", alst(50, 100), film_alst_piece, decode_alst, |a| &a.pieces);
+        self.each("alst_piece", alst(50, 100), film_alst_piece, decode_alst, |a| &a.pieces);
     }
 
     /// Two entries. The Rust has no such call: beside ours stands `alike_by_type`.

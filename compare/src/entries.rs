@@ -75,6 +75,14 @@ fn compare(tally: &mut Tally, random: &mut Random, s: &[u8]) {
             }
         }
     }
+    // all points at once: a number too few for them, then enough and one that has no partner
+    for numbers in [2 * counts[0] - 1, 2 * counts[0] + 1] {
+        let expected = match &rash {
+            Ok(v) if numbers / 2 < v.operation_points.len() => Answer::Refused(29),
+            _ => told(&rash, |v| v.operation_points.iter().map(|p| (p.available_bitrate, p.target_rate_share as u32)).collect()),
+        };
+        tally.same("rash_operation_points", ffi::rash_operation_points(&input, len, numbers), expected, &|| format!("{numbers} numbers for {}", shown()));
+    }
     input.check();
 }
 

@@ -182,19 +182,25 @@ const ROW: SampleToGroupEntry = SampleToGroupEntry { sample_count: ROW_GUARD, gr
 type RawReader = unsafe extern "C" fn(*const u8, usize, *mut u32, usize, *mut [u64; 3]) -> u32;
 type ModuleReader = fn(&[u8], &mut [SampleToGroupEntry]) -> module::Result<module::SampleToGroup>;
 
-/// Calls a table's reader with a run of `numbers` numbers between guards. Only the rows in front of the run are written.
-fn with_rows(s: &Input, len: usize, numbers: usize, call: RawReader, module: ModuleReader) -> Answer<Table> {
+/// Calls what fills a run of `numbers` numbers between guards, and gives the pairs that were written: as many as the last number of `out` says. No other number
+/// of the run is written.
+fn with_run<const N: usize>(numbers: usize, call: impl FnOnce(*mut u32, *mut [u64; N]) -> u32) -> (Answer<[u64; N]>, Vec<(u32, u32)>) {
     let mut framed = vec![ROW_GUARD; numbers + 2 * GUARDS];
     let run = framed[GUARDS..].as_mut_ptr();
-    let told = with_out::<3>(|out| unsafe { call(s.part(len), len, run, numbers, out) });
-    let rows = match &told {
-        Answer::Given([_, _, rows]) => 2 * *rows as usize,
+    let told = with_out::<N>(|out| call(run, out));
+    let written = match &told {
+        Answer::Given(out) => 2 * out[N - 1] as usize,
         _ => 0,
     };
-    assert!(rows <= numbers, "more rows than records");
-    let (front, back) = (&framed[..GUARDS], &framed[GUARDS + rows..]);
+    assert!(written <= numbers, "more rows than records");
+    let (front, back) = (&framed[..GUARDS], &framed[GUARDS + written..]);
     assert!(front.iter().chain(back).all(|&g| g == ROW_GUARD), "a record behind the rows was written");
-    let written = framed[GUARDS..GUARDS + rows].chunks_exact(2).map(|p| (p[0], p[1])).collect();
+    (told, framed[GUARDS..GUARDS + written].chunks_exact(2).map(|p| (p[0], p[1])).collect())
+}
+
+/// Calls a table's reader with a run of `numbers` numbers.
+fn with_rows(s: &Input, len: usize, numbers: usize, call: RawReader, module: ModuleReader) -> Answer<Table> {
+    let (told, written) = with_run::<3>(numbers, |run, out| unsafe { call(s.part(len), len, run, numbers, out) });
     let table = told.map(|[kind, parameter, _]| (kind as u32, parameter as u32, written));
     held(table, len, || {
         let mut lent = vec![ROW; numbers / 2];
@@ -204,6 +210,30 @@ fn with_rows(s: &Input, len: usize, numbers: usize, call: RawReader, module: Mod
         let rows = rows.iter().map(|row| (row.sample_count, row.group_description_index)).collect();
         Answer::from(told).map(|table| (u32::from_be_bytes(table.grouping_type), table.grouping_type_parameter, rows))
     })
+}
+
+type RawFiller = unsafe extern "C" fn(*const u8, usize, *mut u32, usize, *mut [u64; 1]) -> u32;
+type ModuleFiller = fn(&[u8], &mut [[u32; 2]]) -> module::Result<usize>;
+
+/// The pairs that a call writes into a run of `numbers` numbers.
+fn with_records(s: &Input, len: usize, numbers: usize, call: RawFiller, module: ModuleFiller) -> Answer<Vec<(u32, u32)>> {
+    let (told, written) = with_run::<1>(numbers, |run, out| unsafe { call(s.part(len), len, run, numbers, out) });
+    held(told.map(|_| written), len, || {
+        let mut lent = vec![[ROW_GUARD; 2]; numbers / 2];
+        let told = module(s.bytes(len), &mut lent);
+        let (front, behind) = lent.split_at(told.as_ref().map_or(0, |&count| count));
+        assert!(behind.iter().all(|&record| record == [ROW_GUARD; 2]), "a record behind the others was written");
+        let records = front.iter().map(|&[a, b]| (a, b)).collect();
+        Answer::from(told).map(|_| records)
+    })
+}
+
+pub fn entry_places(s: &Input, len: usize, numbers: usize) -> Answer<Vec<(u32, u32)>> {
+    with_records(s, len, numbers, raw::film_entry_places, module::entry_places)
+}
+
+pub fn rash_operation_points(s: &Input, len: usize, numbers: usize) -> Answer<Vec<(u32, u32)>> {
+    with_records(s, len, numbers, raw::film_rash_operation_points, module::rash_operation_points)
 }
 
 pub fn parse_sbgp(s: &Input, len: usize, numbers: usize) -> Answer<Table> {
@@ -315,7 +345,10 @@ pub fn decode_alike(kind: [u8; 4], a: &Input, a_len: usize, b: &Input, b_len: us
 }
 
 pub fn split_csgp_index(index: u32) -> Answer<[u64; 2]> {
-    let told = with_out(|out| unsafe { raw::film_split_csgp_index(index, out) });
+    let told = with_out(|out| {
+        unsafe { raw::film_split_csgp_index(index, out) };
+        raw::OK
+    });
     held(told, 0, || {
         let split = module::split_csgp_index(index);
         Answer::Given([split.index as u64, split.fragment_local as u64])

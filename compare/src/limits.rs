@@ -33,6 +33,7 @@ pub fn run(tally: &mut Tally) {
         check("parse_sgpd", too_long(ffi::parse_sgpd(&long, len)));
         check("entry", too_long(ffi::entry_place(&long, len, 0)));
         check("entry", too_long(ffi::entry_place(&long, len, u32::MAX)));
+        check("entry_places", too_long(ffi::entry_places(&long, len, 4)));
         check("described", too_long(ffi::described_place(&long, len, &short, 16, 0)));
         check("described", too_long(ffi::described_place(&short, 16, &long, len, 0)));
         check("described", too_long(ffi::described_place(&short, 1, &long, len, 0)));
@@ -43,6 +44,7 @@ pub fn run(tally: &mut Tally) {
         check("decode_sap", too_long(ffi::decode_sap(&long, len)));
         check("decode_rash", too_long(ffi::decode_rash(&long, len)));
         check("rash_operation_point", too_long(ffi::rash_operation_point(&long, len, u32::MAX)));
+        check("rash_operation_points", too_long(ffi::rash_operation_points(&long, len, 4)));
         check("decode_alst", too_long(ffi::decode_alst(&long, len)));
         check("alst_sample_offset", too_long(ffi::alst_sample_offset(&long, len, u32::MAX)));
         check("alst_piece", too_long(ffi::alst_piece(&long, len, u32::MAX)));

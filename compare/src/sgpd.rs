@@ -90,6 +90,16 @@ fn compare(tally: &mut Tally, random: &mut Random, s: &[u8]) {
     for index in wanted {
         tally.same("entry", ffi::entry_place(&input, s.len(), index), entry(&told, &found, index), &|| format!("{index} of {}", shown()));
     }
+    // all at once: a number too few for them, then enough and one that has no partner
+    let all: Vec<(u32, u32)> = found.iter().map(|&[place, size]| (place as u32, size as u32)).collect();
+    for numbers in [(2 * all.len()).saturating_sub(1), 2 * all.len() + 1] {
+        let expected = match &told {
+            Err(e) => Answer::Refused(number(e)),
+            Ok(_) if numbers / 2 < all.len() => Answer::Refused(29),
+            Ok(_) => Answer::Given(all.clone()),
+        };
+        tally.same("entry_places", ffi::entry_places(&input, s.len(), numbers), expected, &|| format!("{numbers} numbers for {}", shown()));
+    }
     input.check();
 }
 

@@ -2,12 +2,13 @@
 ghost use mathlib.Core.Path.{_≡_};
 ghost use Rattle.base_fields.specs.Answer.{given};
 ghost use Rattle.group_fragments.specs.Fragments.{describedAt, rateOf};
-ghost use Rattle.group_sgpd.specs.Sgpd.{parseSgpd, entryAt};
-ghost use Rattle.film_status.specs.Status.{Returns};
+ghost use Rattle.group_sgpd.specs.Sgpd.{parseSgpd, entryAt, allEntries};
+ghost use Rattle.film_status.specs.Status.{Returns, FillsRecords, stored};
 ghost use Rattle.film_descriptions.specs.Descriptions.{descriptionNumbers, spanNumbers, partNumbers, splitNumbers};
 use base_ids::DescriptionIndex;
 use film_status::NONE;
 use film_status::bit_of;
+use film_status::put_records;
 use group_fragments::FoundPart;
 use group_sgpd::FoundEntry;
 use group_sgpd::ParsedSgpd;
@@ -48,15 +49,22 @@ pub extern "C" fn film_entry_place(s: &[u8], index: u32, out: &mut [u64; 2]) -> 
     }
 }
 
-// out: the index without bit 31, and that bit.
+// places: place and length of each entry, in front of the lent run. out: entry count.
 #[no_mangle]
-pub extern "C" fn film_split_csgp_index(raw: u32, out: &mut [u64; 2]) -> u32
-    ensures { λ r. ⌜ Returns (given raw) splitNumbers (now (out .entry)) (now (out .exit)) r ⌝ }
+pub extern "C" fn film_entry_places(s: &[u8], places: &mut [u32], out: &mut [u64; 1]) -> u32
+    ensures { λ r. ⌜ FillsRecords (allEntries (now (s .entry)) (now (places .entry))) (λ e. e .place) (λ e. e .size) (now (places .entry)) (now (places .exit)) (now (out .entry)) (now (out .exit)) r ⌝ }
+{
+    put_records(group_sgpd::entry_places(s, places), out)
+}
+
+// out: the index without bit 31, and that bit. There is nothing to refuse, and no status.
+#[no_mangle]
+pub extern "C" fn film_split_csgp_index(raw: u32, out: &mut [u64; 2])
+    ensures { λ _. ⌜ now (out .exit) ≡ stored splitNumbers (given raw) (now (out .entry)) ⌝ }
 {
     let split = group_fragments::split_csgp_index(raw);
     out[0] = split.index.0 as u64;
     out[1] = bit_of(split.fragment_local);
-    0
 }
 
 // out: 1 where the part is the fragment's, its place and its length.

@@ -14,6 +14,7 @@ use group_alike::Likeness;
 pub use number::film_alst_piece;
 pub use number::film_alst_sample_offset;
 pub use number::film_rash_operation_point;
+pub use number::film_rash_operation_points;
 ghost use Rattle.group_alike.specs.Alike.{alike};
 ghost use Rattle.film_status.specs.Status.{Returns};
 ghost use Rattle.film_entries.specs.Entries.{alikeNumbers};

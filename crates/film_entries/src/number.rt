@@ -1,9 +1,10 @@
 // The C interface: the points, offsets and pieces of typed entries, by number.
 ghost use Rattle.base_fields.specs.Answer.{within};
-ghost use Rattle.group_entries.specs.Decoded.{rashPoint, alstOffset, alstPair};
-ghost use Rattle.film_status.specs.Status.{Returns, oneNumber};
+ghost use Rattle.group_entries.specs.Decoded.{rashPoint, rashPoints, alstOffset, alstPair};
+ghost use Rattle.film_status.specs.Status.{Returns, FillsRecords, oneNumber};
 ghost use Rattle.film_entries.specs.Entries.{pointNumbers, pairNumbers};
 use film_status::NONE;
+use film_status::put_records;
 use group_entries::ReadOffset;
 use group_entries::ReadPiece;
 use group_entries::ReadPoint;
@@ -23,6 +24,18 @@ pub extern "C" fn film_rash_operation_point(s: &[u8], k: u32, out: &mut [u64; 2]
         ReadPoint::Nothing => NONE,
         ReadPoint::Refused(n) => n,
     }
+}
+
+// points: bitrate and share of each point, in front of the lent run. out: point count.
+#[no_mangle]
+pub extern "C" fn film_rash_operation_points(
+    s: &[u8],
+    points: &mut [u32],
+    out: &mut [u64; 1],
+) -> u32
+    ensures { λ r. ⌜ FillsRecords (within (now (s .entry)) (rashPoints (now (s .entry)) (now (points .entry)))) (λ p. p .bitrate) (λ p. p .share) (now (points .entry)) (now (points .exit)) (now (out .entry)) (now (out .exit)) r ⌝ }
+{
+    put_records(group_entries::rash_operation_points(s, points), out)
 }
 
 // out: sample offset k, counted from 0.

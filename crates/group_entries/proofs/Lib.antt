@@ -3,3 +3,4 @@ pub mod Extent
 pub mod Values
 pub mod Same
 pub mod Numbered
+pub mod Points

@@ -7,6 +7,7 @@ use lib.IntN.{ℤ, pos, negsuc}
 use lib.ListN.{length}
 use Rattle.base_fields.specs.Answer.{Answer, given, choose, refuseIf, noneIf, andThen}
 use Rattle.base_fields.specs.Number.{beAt}
+use Rattle.base_fields.specs.Records.{roomFor}
 
 -- the signed number that 16 bits hold
 unfoldable pub signed16 : ℕ → ℤ
@@ -120,6 +121,10 @@ alstPair s k = byNumber (decodeAlst s) (λ a. a .pairs) k (pairAt s k)
 unfoldable pub upTo : {A : Type 0} → (ℕ → A) → ℕ → ℕ → List A
 upTo f k zero = []
 upTo f k (suc n) = f k ∷ upTo f (suc k) n
+
+-- all points of a rash, for a lent run of two numbers to a point: the decoder's refusals, then 29
+abbrev pub rashPoints : List ℕ → List ℕ → Answer (List Point)
+rashPoints s run = andThen (decodeRash s) (λ r. roomFor run (upTo (pointAt s) 0 (r .points)))
 
 -- a decoded value: one constructor for each layout of part 7, and one for the raw bytes of any other type
 pub data Decoded : Type 0 where

@@ -16,6 +16,7 @@ pub use plain::decode_tele;
 pub use plain::signed_u16;
 pub use rash::decode_rash;
 pub use rash::rash_operation_point;
+pub use rash::rash_operation_points;
 pub use rash::rash_points_end;
 ghost use mathlib.Core.Path.{_≡_};
 ghost use Rattle.group_entries.specs.Layout.{layoutOf};

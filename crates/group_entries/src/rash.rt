@@ -5,11 +5,14 @@ use super::RateShare;
 use super::RateShareOperationPoint;
 use super::ReadPoint;
 use super::check_length;
+use base_fields::FilledRun;
 ghost use mathlib.Core.Path.{_≡_};
 ghost use Prim.Native.Nat.{_+_, _*_, _≤_};
 ghost use lib.Dec.{eqb};
-ghost use Rattle.base_fields.specs.Answer.{within, choose};
-ghost use Rattle.group_entries.specs.Decoded.{decodeRash, rashPoint};
+ghost use lib.ListN.{length};
+ghost use Rattle.base_fields.specs.Answer.{within, choose, inFront};
+ghost use Rattle.base_fields.specs.Records.{numbersOf, GivesRecords};
+ghost use Rattle.group_entries.specs.Decoded.{decodeRash, rashPoint, rashPoints, pointAt, pointCount, upTo};
 ghost use Rattle.group_entries.specs.Told.{toldRash, toldPoint};
 
 // Where the points end: a single one is a share alone.
@@ -71,4 +74,43 @@ pub fn rash_operation_point(payload: &[u8], k: u32) -> ReadPoint
         available_bitrate: base_fields::read_u32(payload, at),
         target_rate_share: base_fields::read_u16(payload, at + 4),
     })
+}
+
+// Writes the points, of which there are more than one, in front of the run.
+fn put_points(payload: &[u8], count: usize, run: &mut [u32])
+    requires { ⌜ (2 + 6 * count ≤ length (now payload)) × (2 * count ≤ length (now run)) ⌝ }
+    requires { ⌜ ((pointCount (now payload) ≡ 1) → ⊥) ⌝ }
+    ensures { λ _. ⌜ now (run .exit) ≡ inFront (numbersOf (λ p. p .bitrate) (λ p. p .share) (upTo (pointAt (now (payload .entry))) 0 count)) (now (run .entry)) ⌝ }
+{
+    let mut k: usize = 0;
+    while k < count {
+        let at = 2 + 6 * k;
+        let bitrate = base_fields::read_u32(payload, at);
+        let share = base_fields::read_u16(payload, at + 4);
+        run[2 * k] = bitrate;
+        run[2 * k + 1] = share as u32;
+        k = k + 1;
+    }
+}
+
+// The bitrate and the share of every point, in front of the lent run; a single point has the bitrate 0. Nothing is written on refusal.
+pub fn rash_operation_points(payload: &[u8], run: &mut [u32]) -> FilledRun
+    ensures { λ r. ⌜ GivesRecords (within (now (payload .entry)) (rashPoints (now (payload .entry)) (now (run .entry)))) (λ p. p .bitrate) (λ p. p .share) (now (run .entry)) (now (run .exit)) r ⌝ }
+{
+    let plain = match decode_rash(payload) {
+        DecodedRash::Rash(v) => v,
+        DecodedRash::Refused(n) => return FilledRun::Refused(n),
+    };
+    let count = plain.operation_point_count;
+    if run.len() / 2 < (count as usize) {
+        return FilledRun::Refused(29);
+    }
+    if count == 1 {
+        let share = base_fields::read_u16(payload, 2);
+        run[0] = 0;
+        run[1] = share as u32;
+        return FilledRun::Records(1);
+    }
+    put_points(payload, count as usize, run);
+    FilledRun::Records(count as u32)
 }

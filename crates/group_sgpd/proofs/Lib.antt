@@ -2,5 +2,6 @@ pub mod Onward
 pub mod Entries
 pub mod Heads
 pub mod Marked
+pub mod Placed
 pub mod ByNumber
 pub mod Numbered

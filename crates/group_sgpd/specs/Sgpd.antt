@@ -5,6 +5,7 @@ use lib.Dec.{ltb, leb, eqb}
 use lib.ListN.{length, getD}
 use Rattle.base_fields.specs.Answer.{Answer, given, choose, refuseIf, noneIf, andThen, within}
 use Rattle.base_fields.specs.Number.{beAt}
+use Rattle.base_fields.specs.Records.{roomFor}
 use Rattle.base_fields.specs.Span.{Span}
 use Rattle.base_fields.specs.Fourcc as fourcc
 
@@ -104,3 +105,7 @@ pick es i =
 -- the whole payload is read before an entry is given
 abbrev pub entryAt : List ℕ → ℕ → Answer Span
 entryAt s i = andThen (sgpd s) (λ es. pick es i)
+
+-- all entries at once, for a lent run of two numbers to an entry: the payload's own refusals, then 29
+abbrev pub allEntries : List ℕ → List ℕ → Answer (List Span)
+allEntries s run = andThen (sgpd s) (λ es. roomFor run es)

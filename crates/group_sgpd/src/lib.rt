@@ -3,6 +3,7 @@ mod cursor;
 mod head;
 mod lookup;
 mod marks;
+mod places;
 mod spans;
 
 ghost use mathlib.Core.Path.{_≡_};
@@ -19,6 +20,7 @@ pub use lookup::entry_place;
 pub use marks::MARKS;
 pub use marks::entry_marks;
 pub use marks::marked_entry;
+pub use places::entry_places;
 use spans::skip_all;
 
 pub struct SampleGroupDescription {

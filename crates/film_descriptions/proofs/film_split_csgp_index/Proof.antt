@@ -19,7 +19,7 @@ element-write-out-2 : tie.Need-element-write-out-2
 element-write-out-2 c = search needs
 
 returns : tie.Need-returns
-returns c = record { status = refl; out = rw (c .bit-of .ensures, c .before .before .split-csgp-index .ensures .0, c .before .before .split-csgp-index .ensures .1) refl }
+returns c = rw (c .bit-of .ensures, c .before .before .split-csgp-index .ensures .0, c .before .before .split-csgp-index .ensures .1) refl
 
 pub film-split-csgp-index-spec : {M : Type 1} → statement M
 film-split-csgp-index-spec =
