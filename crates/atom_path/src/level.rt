@@ -10,7 +10,7 @@ ghost use Rattle.base_fields.specs.Span.{Span};
 ghost use Rattle.atom_tree.specs.Atom.{Sound};
 ghost use Rattle.atom_tree.specs.Told.{headerOf, toldChild};
 ghost use Rattle.atom_path.specs.Path.{endIn, atomAt, bodySpan, presentAt, atLevel};
-ghost use Rattle.atom_path.specs.Told.{childOf, spanOf, toldBody, levelOf, levelsLeft, soughtIn};
+ghost use Rattle.atom_path.specs.Told.{childOf, spanOf, toldBody, levelOf, levelsLeft, soughtIn, LevelGives};
 use super::Container;
 use super::FoundBody;
 use atom_tree::AtomHeader;
@@ -59,7 +59,7 @@ fn level(fourcc: u32, number: u32, missing: u32, top: bool) -> PathLevel
 }
 
 // The level with so many levels to go, itself among them.
-pub fn level_with(levels: u32, track: u32) -> PathLevel
+fn level_with(levels: u32, track: u32) -> PathLevel
     requires { ⌜ (0 < levels) × (levels ≤ 5) ⌝ }
     ensures { λ r. ⌜ (levelsLeft levels track ≡ levelOf r ∷ levelsLeft (levels - 1) track) × (r .top ≡ eqb levels 5) ⌝ }
 {
@@ -166,7 +166,7 @@ fn found_in(s: &[u8], level: PathLevel, sought: Sought) -> FoundBody
 }
 
 // Walks a level to its end, and gives the body of the atom that is looked for.
-pub fn find_in_level(s: &[u8], level: PathLevel, parent: Container) -> FoundBody
+fn find_in_level(s: &[u8], level: PathLevel, parent: Container) -> FoundBody
     requires { ⌜ (length (now s) ≤ inputLimit) × (parent .place + parent .size ≤ length (now s)) × (level .top ≡ true → parent .place + parent .size ≡ length (now s)) ⌝ }
     ensures { λ r. ⌜ toldBody r ≡ atLevel (now (s .entry)) (levelOf level) (spanOf parent) ⌝ }
 {
@@ -186,4 +186,12 @@ pub fn find_in_level(s: &[u8], level: PathLevel, parent: Container) -> FoundBody
             NextChild::Refused(n) => return FoundBody::Refused(n),
         }
     }
+}
+
+// The level with so many levels to go, itself among them, in the container at a place.
+pub fn search_level(s: &[u8], track: u32, levels: u32, place: u64, size: u64) -> FoundBody
+    requires { ⌜ (length (now s) ≤ inputLimit) × (0 < levels) × (levels ≤ 5) × (place + size ≤ length (now s)) × (levels ≡ 5 → place + size ≡ length (now s)) ⌝ }
+    ensures { λ r. ⌜ LevelGives (now (s .entry)) levels track (record { place = place; size = size }) r ⌝ }
+{
+    find_in_level(s, level_with(levels, track), Container { place, size })
 }

@@ -6,10 +6,9 @@ ghost use Prim.Native.Nat.{_+_, _≤_};
 ghost use lib.ListN.{length};
 ghost use Rattle.base_fields.specs.Answer.{inputLimit};
 ghost use Rattle.atom_path.specs.Path.{descend, stblAt};
-ghost use Rattle.atom_path.specs.Told.{spanOf, levelsLeft, toldBody};
+ghost use Rattle.atom_path.specs.Told.{levelsLeft, toldBody};
 use base_fields::INPUT_LIMIT;
-use level::find_in_level;
-use level::level_with;
+use level::search_level;
 
 // The levels from the top to the stbl.
 const LEVELS: u32 = 5;
@@ -25,17 +24,17 @@ pub enum FoundBody {
     Refused(u32),
 }
 
-// Goes down the levels that are left, each within the container above it.
-fn search_below(s: &[u8], track: u32, levels: u32, container: Container) -> FoundBody
-    requires { ⌜ (length (now s) ≤ inputLimit) × (levels ≤ 5) × (container .place + container .size ≤ length (now s)) × (levels ≡ 5 → container .place + container .size ≡ length (now s)) ⌝ }
-    ensures { λ r. ⌜ toldBody r ≡ descend (now (s .entry)) (levelsLeft levels track) (spanOf container) ⌝ }
+// Goes down the levels that are left, each within the container above it. What stands in a frame of this recursion is kept small.
+fn search_below(s: &[u8], track: u32, levels: u32, place: u64, size: u64) -> FoundBody
+    requires { ⌜ (length (now s) ≤ inputLimit) × (levels ≤ 5) × (place + size ≤ length (now s)) × (levels ≡ 5 → place + size ≡ length (now s)) ⌝ }
+    ensures { λ r. ⌜ toldBody r ≡ descend (now (s .entry)) (levelsLeft levels track) (record { place = place; size = size }) ⌝ }
 {
     if levels == 0 {
-        return FoundBody::Body(container);
+        return FoundBody::Body(Container { place, size });
     }
-    let found = find_in_level(s, level_with(levels, track), container);
+    let found = search_level(s, track, levels, place, size);
     match found {
-        FoundBody::Body(inner) => search_below(s, track, levels - 1, inner),
+        FoundBody::Body(inner) => search_below(s, track, levels - 1, inner.place, inner.size),
         FoundBody::Refused(n) => FoundBody::Refused(n),
     }
 }
@@ -47,9 +46,5 @@ pub fn find_stbl(s: &[u8], track: u32) -> FoundBody
     if INPUT_LIMIT < s.len() {
         return FoundBody::Refused(55);
     }
-    let film = Container {
-        place: 0,
-        size: s.len() as u64,
-    };
-    search_below(s, track, LEVELS, film)
+    search_below(s, track, LEVELS, 0, s.len() as u64)
 }

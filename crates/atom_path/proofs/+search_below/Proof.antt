@@ -2,17 +2,16 @@
 use mathlib.Core.Path.{ap, sym, _∙_}
 use native.Mathlib.Omega.{arith}
 use borrow.Author.Needs.{needs}
-use Rattle.atom_path.specs.Told.{spanOf, levelOf, toldBody}
+use Rattle.atom_path.specs.Told.{toldBody}
 use Rattle.atom_path.proofs.Bodies.{level-within}
-use Rattle.atom_path.proofs.Cases.{down-end, down-level, down-refused, levels-none, top-level}
+use Rattle.atom_path.proofs.Cases.{down-end, down-level, down-refused, levels-none}
 use Prim.Native.Nat.{ℕ, _<_}
 use borrow.Fn.Kinds.{In}
 use borrow.Fn.PlainCycle.{Measures, is, falls, and}
 use Rattle.atom_path.proofs.search_below.Reads as search-below
 use Rattle.atom_path.proofs.search_below.Kinds as search-below-kinds
 use Rattle.atom_path.proofs.+search_below.Lts-search_below as search-below-lts
-use Rattle.atom_path.proofs.level.find_in_level.Reads as find-in-level-reads
-use Rattle.atom_path.proofs.level.level_with.Reads as level-with-reads
+use Rattle.atom_path.proofs.level.search_level.Reads as search-level-reads
 use Rattle.atom_path.proofs.+search_below.{statement}
 use Rattle.atom_path.proofs.+search_below.Tie.{close}
 
@@ -32,126 +31,97 @@ search-below-below t =
     search-below.Pre
 
 search-below-returns : (t : ℕ) → search-below-lts.Need-returns (
-  level-with-reads.Asked,
-  level-with-reads.Learnt,
-  find-in-level-reads.Asked,
-  find-in-level-reads.Learnt,
+  search-level-reads.Asked,
+  search-level-reads.Learnt,
   search-below-below t,
   search-below.Post,
 ) (search-below-at t) search-below.Post
-search-below-returns t c = let a = c .before .before .args in down-end (a .s .now) (spanOf (a .container)) (levels-none (a .track) (c .if1 .taken))
+search-below-returns t c = let a = c .before .before .args in down-end (a .s .now) (record { place = a .place; size = a .size }) (levels-none (a .track) (c .if1 .taken))
 
-search-below-level-with-requires : (t : ℕ) → search-below-lts.Need-level-with-requires (
-  level-with-reads.Asked,
-  level-with-reads.Learnt,
-  find-in-level-reads.Asked,
-  find-in-level-reads.Learnt,
+search-below-search-level-requires : (t : ℕ) → search-below-lts.Need-search-level-requires (
+  search-level-reads.Asked,
+  search-level-reads.Learnt,
   search-below-below t,
   search-below.Post,
 ) (search-below-at t) search-below.Post
-search-below-level-with-requires t c κs = (omega arith, c .before .before .pre .1 .1)
-
-search-below-find-in-level-requires : (t : ℕ) → search-below-lts.Need-find-in-level-requires (
-  level-with-reads.Asked,
-  level-with-reads.Learnt,
-  find-in-level-reads.Asked,
-  find-in-level-reads.Learnt,
-  search-below-below t,
-  search-below.Post,
-) (search-below-at t) search-below.Post
-search-below-find-in-level-requires t c κs = let start = c .before .before .before in
-    (start .pre .1 .0, start .pre .1 .2, λ e. start .pre .1 .3 (top-level (c .level-with .ensures .1) e))
+search-below-search-level-requires t c κs = let start = c .before .before in
+    (start .pre .1 .0, omega arith, start .pre .1 .1, start .pre .1 .2, start .pre .1 .3)
 
 search-below-enum-known-found : (t : ℕ) → search-below-lts.Need-enum-known-found (
-  level-with-reads.Asked,
-  level-with-reads.Learnt,
-  find-in-level-reads.Asked,
-  find-in-level-reads.Learnt,
+  search-level-reads.Asked,
+  search-level-reads.Learnt,
   search-below-below t,
   search-below.Post,
 ) (search-below-at t) search-below.Post
 search-below-enum-known-found t c = search needs
 
 search-below-sub-search-below : (t : ℕ) → search-below-lts.Need-sub-search-below (
-  level-with-reads.Asked,
-  level-with-reads.Learnt,
-  find-in-level-reads.Asked,
-  find-in-level-reads.Learnt,
+  search-level-reads.Asked,
+  search-level-reads.Learnt,
   search-below-below t,
   search-below.Post,
 ) (search-below-at t) search-below.Post
 search-below-sub-search-below t c = search needs
 
 search-below-search-below-requires : (t : ℕ) → search-below-lts.Need-search-below-requires (
-  level-with-reads.Asked,
-  level-with-reads.Learnt,
-  find-in-level-reads.Asked,
-  find-in-level-reads.Learnt,
+  search-level-reads.Asked,
+  search-level-reads.Learnt,
   search-below-below t,
   search-below.Post,
 ) (search-below-at t) search-below.Post
 search-below-search-below-requires t c κs = let found = c .before .before .before in
-    let start = found .before .before .before .before in
+    let start = found .before .before .before in
     let a = start .args in (
       omega (arith, start .pre .0),
       (
         start .pre .1 .0,
         omega (arith, start .pre .1 .1),
-        level-within (a .s .now) (levelOf (found .before .level-with .result)) (spanOf (a .container)) (start .pre .1 .2) (sym (found .find-in-level .ensures) ∙ ap toldBody (c .before .found .given .1)),
+        level-within (a .s .now) (found .search-level .ensures .level) (record { place = a .place; size = a .size }) (start .pre .1 .2) (sym (found .search-level .ensures .told) ∙ ap toldBody (c .before .found .given .1)),
         λ e. absurd (omega (arith, start .pre .1 .1, e)),
       ),
     )
 
 search-below-enum-known-found-2 : (t : ℕ) → search-below-lts.Need-enum-known-found-2 (
-  level-with-reads.Asked,
-  level-with-reads.Learnt,
-  find-in-level-reads.Asked,
-  find-in-level-reads.Learnt,
+  search-level-reads.Asked,
+  search-level-reads.Learnt,
   search-below-below t,
   search-below.Post,
 ) (search-below-at t) search-below.Post
 search-below-enum-known-found-2 t c = search needs
 
 search-below-returns-2 : (t : ℕ) → search-below-lts.Need-returns-2 (
-  level-with-reads.Asked,
-  level-with-reads.Learnt,
-  find-in-level-reads.Asked,
-  find-in-level-reads.Learnt,
+  search-level-reads.Asked,
+  search-level-reads.Learnt,
   search-below-below t,
   search-below.Post,
 ) (search-below-at t) search-below.Post
 search-below-returns-2 t c = let found = c .before .before .before .before in
-    let start = found .before .before .before .before in
+    let start = found .before .before .before in
     let a = start .args in
     c .search-below .ensures
-    ∙ down-level (a .s .now) (spanOf (a .container)) (found .before .level-with .ensures .0) (sym (found .find-in-level .ensures) ∙ ap toldBody (c .before .before .found .given .1))
+    ∙ down-level (a .s .now) (record { place = a .place; size = a .size }) (found .search-level .ensures .left) (sym (found .search-level .ensures .told) ∙ ap toldBody (c .before .before .found .given .1))
 
 search-below-returns-3 : (t : ℕ) → search-below-lts.Need-returns-3 (
-  level-with-reads.Asked,
-  level-with-reads.Learnt,
-  find-in-level-reads.Asked,
-  find-in-level-reads.Learnt,
+  search-level-reads.Asked,
+  search-level-reads.Learnt,
   search-below-below t,
   search-below.Post,
 ) (search-below-at t) search-below.Post
 search-below-returns-3 t c = let found = c .before .before .before in
-    let a = found .before .before .before .before .args in
-    down-refused (a .s .now) (spanOf (a .container)) (found .before .level-with .ensures .0) (sym (found .find-in-level .ensures) ∙ ap toldBody (c .before .found2 .given .1))
+    let a = found .before .before .before .args in
+    down-refused (a .s .now) (record { place = a .place; size = a .size }) (found .search-level .ensures .left) (sym (found .search-level .ensures .told) ∙ ap toldBody (c .before .found2 .given .1))
 
 pub +search-below-spec : {M : Type 1} → statement M
 +search-below-spec = close μ-search-below λ t. search-below-lts.spec (
-  level-with-reads.Asked,
-  level-with-reads.Learnt,
-  find-in-level-reads.Asked,
-  find-in-level-reads.Learnt,
+  search-level-reads.Asked,
+  search-level-reads.Learnt,
   search-below-below t,
   search-below.Post,
 )
     (search-below-at t)
     search-below.Post
     (search-below-returns t)
-    (search-below-level-with-requires t)
-    (search-below-find-in-level-requires t)
+    (search-below-search-level-requires t)
     (search-below-enum-known-found t)
     (search-below-sub-search-below t)
     (search-below-search-below-requires t)
