@@ -1,35 +1,5 @@
 // Stored answers for the stbl of a track, cue listings and decode starts: whether the library gives the answer that a record has.
 
-// The byte at a place of the first `size`; 0 behind them.
-fn byte_of(listing: &[u8], size: u64, k: usize) -> u8 {
-    if size <= k as u64 {
-        return 0;
-    }
-    if listing.len() <= k {
-        return 0;
-    }
-    listing[k]
-}
-
-// The bytes are the first `size` of the listing, filled up with zeros to whole numbers.
-pub fn same_bytes(seen: &[u8], listing: &[u8], size: u64) -> bool {
-    let n = seen.len() as u64;
-    if n < size {
-        return false;
-    }
-    if 8 <= n - size {
-        return false;
-    }
-    let mut k: usize = 0;
-    while k < seen.len() {
-        if seen[k] != byte_of(listing, size, k) {
-            return false;
-        }
-        k = k + 1;
-    }
-    true
-}
-
 // The record's numbers are the two lengths, then the rows, then the listing's bytes, eight to a number.
 fn same_numbers(seen: &[u8], size: u64, count: u64, rows: &[u32], listing: &[u8]) -> bool {
     if 64 < count {
@@ -39,7 +9,11 @@ fn same_numbers(seen: &[u8], size: u64, count: u64, rows: &[u32], listing: &[u8]
         let behind = test_vector_lines::rest(seen, 16);
         let end = 16 * (count as usize);
         if test_vectors_tables::same_rows(test_vector_lines::front(behind, end), rows, count) {
-            return same_bytes(test_vector_lines::rest(behind, end), listing, size);
+            return test_vectors_tables::same_bytes(
+                test_vector_lines::rest(behind, end),
+                listing,
+                size,
+            );
         }
     }
     false

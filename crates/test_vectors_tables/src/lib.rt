@@ -14,6 +14,36 @@ fn same_table(record: &[u8], status: u32, head: &[u64], count: u64, rows: &[u32]
     false
 }
 
+// The byte at a place of the first `size`; 0 behind them.
+fn byte_of(output: &[u8], size: u64, k: usize) -> u8 {
+    if size <= k as u64 {
+        return 0;
+    }
+    if output.len() <= k {
+        return 0;
+    }
+    output[k]
+}
+
+// The bytes are the first `size` of the output, filled up with zeros to whole numbers.
+pub fn same_bytes(seen: &[u8], output: &[u8], size: u64) -> bool {
+    let n = seen.len() as u64;
+    if n < size {
+        return false;
+    }
+    if 8 <= n - size {
+        return false;
+    }
+    let mut k: usize = 0;
+    while k < seen.len() {
+        if seen[k] != byte_of(output, size, k) {
+            return false;
+        }
+        k = k + 1;
+    }
+    true
+}
+
 // The bytes are those of the first `count` rows.
 pub fn same_rows(seen: &[u8], rows: &[u32], count: u64) -> bool {
     let n = seen.len() / 8;

@@ -55,7 +55,7 @@ fn same_body(record: &[u8], status: u32, length: u64, body: &[u8]) -> bool {
         let seen = test_vector_lines::numbers(record);
         if test_vector_lines::same_numbers(test_vector_lines::front(seen, 8), &[length]) {
             if kept(body, length as usize) {
-                return test_vectors_listing::same_bytes(
+                return test_vectors_tables::same_bytes(
                     test_vector_lines::rest(seen, 8),
                     body,
                     length,

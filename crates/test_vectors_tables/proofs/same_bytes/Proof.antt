@@ -2,14 +2,14 @@
 use Prim.Native.Nat.{_-_, _≤_}
 use lib.ListN.{length}
 use borrow.Author.Needs.{needs}
-use Rattle.test_vectors_listing.proofs.same_bytes.Statement.{statement}
-use Rattle.test_vectors_listing.proofs.same_bytes.Tie as tie
+use Rattle.test_vectors_tables.proofs.same_bytes.Statement.{statement}
+use Rattle.test_vectors_tables.proofs.same_bytes.Tie as tie
 
 abbrev Inv-loop : tie.InvT-loop
-Inv-loop seen listing size n k₀ k = k ≤ length seen
+Inv-loop seen output size n k₀ k = k ≤ length seen
 
 abbrev μ-loop : tie.MeasureT-loop
-μ-loop seen listing size n k₀ k = length seen - k
+μ-loop seen output size n k₀ k = length seen - k
 
 returns : tie.Need-returns Inv-loop μ-loop
 returns c = search needs

@@ -1,10 +1,9 @@
 // The starred cases of document 01, and those beside them in its table, as calls of the entries on literal bytes: crates/test_starred has
-// the table over the definitions, and the contracts here say what the code answers. The program makes the calls and prints the answers.
-mod descriptions;
-mod headers;
-mod listing;
-mod print;
-mod tables;
+// the table over the definitions, and the contracts here say what the code answers. crates/test_starred_print makes the calls and prints the answers.
+pub mod descriptions;
+pub mod headers;
+pub mod listing;
+pub mod tables;
 
 use descriptions::EntryAnswers;
 use descriptions::SgpdAnswers;
@@ -31,7 +30,7 @@ pub struct StarredAnswers {
 }
 
 // Every case at once.
-fn starred() -> StarredAnswers
+pub fn starred() -> StarredAnswers
     ensures { λ r. ⌜ AllHold (answered r) ⌝ }
 {
     StarredAnswers {
@@ -42,8 +41,4 @@ fn starred() -> StarredAnswers
         entries: entry_calls(),
         listing: listing_call(),
     }
-}
-
-fn main() {
-    print::print_answers(starred());
 }

@@ -3,8 +3,8 @@ use Prim.Native.Nat.{_-_, _≤_}
 use native.Mathlib.Omega.{arith}
 use lib.ListN.{length}
 use borrow.Author.Needs.{needs}
-use Rattle.test_starred_calls.proofs.print.numbers.Statement.{statement}
-use Rattle.test_starred_calls.proofs.print.numbers.Tie as tie
+use Rattle.test_starred_print.proofs.print.numbers.Statement.{statement}
+use Rattle.test_starred_print.proofs.print.numbers.Tie as tie
 
 abbrev Inv-loop : tie.InvT-loop
 Inv-loop rows i₀ i = i ≤ length rows

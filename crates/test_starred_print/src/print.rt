@@ -1,11 +1,4 @@
 // The answers, a line each: refused N, none, or the values.
-use super::StarredAnswers;
-use super::descriptions::EntryAnswers;
-use super::descriptions::SgpdAnswers;
-use super::headers::HeaderAnswers;
-use super::listing::ListingAnswer;
-use super::tables::CsgpAnswers;
-use super::tables::SbgpAnswers;
 use atom_tree::ReadHeader;
 use atom_tree::ReadPayload;
 use atom_tree::TotalSize;
@@ -19,6 +12,13 @@ use listing_cue::CueListing;
 use table_rows::Covered;
 use table_rows::Found;
 use table_rows::ParsedTable;
+use test_starred_calls::StarredAnswers;
+use test_starred_calls::descriptions::EntryAnswers;
+use test_starred_calls::descriptions::SgpdAnswers;
+use test_starred_calls::headers::HeaderAnswers;
+use test_starred_calls::listing::ListingAnswer;
+use test_starred_calls::tables::CsgpAnswers;
+use test_starred_calls::tables::SbgpAnswers;
 
 fn word(text: &[u8]) {
     io::write_all(STDOUT_FILENO, text);
