@@ -120,6 +120,8 @@ static int agrees(const uint8_t *r, unsigned length) {
     case 32: status = film_is_sync_sample(s, len, k, out); count = 1; break;
     case 33: status = film_last_sync_sample(s, len, k, out); count = 1; break;
     case 34: status = film_sample_dependency(s, len, k, out); count = 4; break;
+    case 35: status = film_entry_places(s, len, rows, argument[0], out); count = 1; break;
+    case 36: status = film_rash_operation_points(s, len, rows, argument[0], out); count = 1; break;
     default: return 0;
     }
     if (told[0] != status || numbers + 8 * told[1] != r + length) return 0;
@@ -135,9 +137,10 @@ static int agrees(const uint8_t *r, unsigned length) {
             if (numbers[8 * (count + 2 * pairs) + i] != (i < bytes ? listing[i] : 0)) return 0;
         return 1;
     }
-    if (r[0] != 5 && r[0] != 6) return told[1] == count;
-    if (told[1] != count + 2 * out[2]) return 0;
-    for (unsigned i = 0; i < 2 * out[2]; i++)
+    if (r[0] != 5 && r[0] != 6 && r[0] < 35) return told[1] == count;
+    uint64_t pairs = out[count - 1]; /* the last number of the head is how many follow */
+    if (told[1] != count + 2 * pairs) return 0;
+    for (unsigned i = 0; i < 2 * pairs; i++)
         if (big(numbers + 8 * (count + i), 8) != rows[i]) return 0;
     return 1;
 }
@@ -165,7 +168,7 @@ static void replay(const char *name, const char *from, const char *to, int expec
 }
 
 extern const char film_listings[], film_listings_end[], starts[], starts_end[], writing[], writing_end[], sync[], sync_end[], damaged_requests[], damaged_requests_end[];
-extern const char films[], films_end[], listings[], listings_end[], damaged_listing[], damaged_listing_end[];
+extern const char records[], records_end[], films[], films_end[], listings[], listings_end[], damaged_listing[], damaged_listing_end[];
 extern const char atoms[], atoms_end[], tables[], tables_end[], descriptions[], descriptions_end[], document[], document_end[], damaged[], damaged_end[];
 
 /* Document 01's starred cases: status, then numbers. */
@@ -377,9 +380,10 @@ static void measured(void) {
     for (unsigned k = 0; k < 1000; k++) end = put(put(end, 4, 4), k, 4);
     MEASURE("parse_sgpd, 1,000 entries, lengths", 10, film_parse_sgpd(input, (film_size)(end - input), out));
     MEASURE("entry_place, the last, lengths", 10, film_entry_place(input, (film_size)(end - input), 1000, out));
+    MEASURE("entry_places, all 1,000, lengths", 10, film_entry_places(input, (film_size)(end - input), rows, 4096, out));
     MEASURE("described_place, the fragment's last, lengths", 10,
             film_described_place(input, (film_size)(end - input), input, (film_size)(end - input), 0x80000000u | 1000, out));
-    MEASURE("split_csgp_index", 1000, film_split_csgp_index(0x80000007u, out));
+    MEASURE("split_csgp_index", 1000, (film_split_csgp_index(0x80000007u, out), 0));
     MEASURE("rate_of_point", 1000, film_rate_of_point(4000000000u, 75));
 
     put(input, 0xfffe, 2);
@@ -391,6 +395,7 @@ static void measured(void) {
     put(input, 100, 2);
     MEASURE("decode_rash, 100 points", 1000, film_decode_rash(input, 611, out));
     MEASURE("rash_operation_point, one of 100", 1000, film_rash_operation_point(input, 611, 50, out));
+    MEASURE("rash_operation_points, all 100", 100, film_rash_operation_points(input, 611, rows, 4096, out));
     MEASURE("decode_alike, rash of 100 points", 10, film_decode_alike(0x72617368, input, 611, input, 611, out));
     MEASURE("decode_alst, 100 offsets, 50 pieces", 1000, film_decode_alst(input, 604, out));
     MEASURE("alst_sample_offset, one of 100", 1000, film_alst_sample_offset(input, 604, 50, out));
@@ -427,6 +432,7 @@ void reset(void) {
     replay("tables", tables, tables_end, 1);
     replay("document", document, document_end, 1);
     replay("descriptions", descriptions, descriptions_end, 1);
+    replay("records", records, records_end, 1);
     replay("damaged", damaged, damaged_end, 0);
     all_starred();
     measured();

@@ -3,7 +3,7 @@
 use super::MIB;
 use super::ffi::{self, Answer, Input};
 use super::random::Random;
-use super::sgpd::TYPES;
+use super::sgpd::{TYPES, records_of};
 use super::tally::Tally;
 use super::vectors::Vectors;
 use crate::sample_groups as rust;
@@ -77,11 +77,7 @@ fn compare(tally: &mut Tally, random: &mut Random, s: &[u8]) {
     }
     // all points at once: a number too few for them, then enough and one that has no partner
     for numbers in [2 * counts[0] - 1, 2 * counts[0] + 1] {
-        let expected = match &rash {
-            Ok(v) if numbers / 2 < v.operation_points.len() => Answer::Refused(29),
-            _ => told(&rash, |v| v.operation_points.iter().map(|p| (p.available_bitrate, p.target_rate_share as u32)).collect()),
-        };
-        tally.same("rash_operation_points", ffi::rash_operation_points(&input, len, numbers), expected, &|| format!("{numbers} numbers for {}", shown()));
+        tally.same("rash_operation_points", ffi::rash_operation_points(&input, len, numbers), all_points(&rash, numbers), &|| format!("{numbers} numbers for {}", shown()));
     }
     input.check();
 }
@@ -96,6 +92,14 @@ fn alst_numbers(v: &rust::AlternativeStartup) -> [u64; 3] {
 
 fn point(read: &Result<rust::RateShare>, k: u32) -> Answer<[u64; 2]> {
     element(read, |v| &v.operation_points, k, |p| [p.available_bitrate as u64, p.target_rate_share as u64])
+}
+
+/// What rash_operation_points answers with a run of so many numbers.
+fn all_points(read: &Result<rust::RateShare>, numbers: usize) -> Answer<Vec<(u32, u32)>> {
+    match read {
+        Ok(v) if numbers / 2 < v.operation_points.len() => Answer::Refused(29),
+        _ => told(read, |v| v.operation_points.iter().map(|p| (p.available_bitrate, p.target_rate_share as u32)).collect()),
+    }
 }
 
 fn offset(read: &Result<rust::AlternativeStartup>, k: u32) -> Answer<[u64; 1]> {
@@ -218,25 +222,41 @@ pub fn run(tally: &mut Tally) {
     }
 }
 
-/// Entries 11 to 20: the decoders, with points, offsets and pieces by number. A distance is stored as 64 bits, with its sign.
-pub fn vectors(out: &mut Vectors) {
+/// Entries that are stored: document 01's distances, one of each long layout cut at every byte, and others.
+fn stored(mut add: impl FnMut(&[u8])) {
     for s in [[0xff, 0xfe], [0x80, 0x00], [0x7f, 0xff], [0x00, 0x80]] {
-        sample(out, &s);
+        add(&s);
     }
     let rash = [0, 2, 0, 0, 0, 5, 0, 7, 0, 0, 0, 6, 0, 8, 0, 0, 0, 9, 0, 0, 0, 3, 1];
     let one = [0, 1, 0, 7, 0, 0, 0, 8, 0, 0, 0, 9, 5];
     let alst = [0, 2, 0, 6, 0, 0, 0, 3, 0, 0, 0, 4, 0, 4, 0, 5, 0, 6, 0, 7];
     for s in [&rash[..], &one, &alst] {
         for len in (0..=s.len()).rev() {
-            sample(out, &s[..len]);
+            add(&s[..len]);
         }
     }
     let mut random = Random::new(14);
     for _ in 0..70 {
         let len = random.below(30) as usize;
         let count = random.below(4) as u16;
-        sample(out, &counted(&mut random, count, len));
+        add(&counted(&mut random, count, len));
     }
+}
+
+/// Entries 11 to 20: the decoders, with points, offsets and pieces by number. A distance is stored as 64 bits, with its sign.
+pub fn vectors(out: &mut Vectors) {
+    stored(|s| sample(out, s));
+}
+
+/// Entry 36: rash_operation_points, with a number too few for all points, then with enough and one that has no partner.
+pub fn records(out: &mut Vectors) {
+    stored(|s| {
+        let rash = rust::decode_rash(s);
+        let count = rash.as_ref().map_or(1, |v| v.operation_points.len());
+        for numbers in [2 * count - 1, 2 * count + 1] {
+            out.add(36, &[numbers as u64], s, all_points(&rash, numbers).map(|all| records_of(&all)));
+        }
+    });
 }
 
 fn sample(out: &mut Vectors, s: &[u8]) {

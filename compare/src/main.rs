@@ -24,7 +24,7 @@ const MIB: usize = 1 << 20;
 
 /// The files of stored vectors that hold right answers, by the file of their damaged lines.
 const FILES: [&str; 4] = ["atoms", "tables", "document", "descriptions"];
-const LISTINGS: [&str; 2] = ["listing", "films"];
+const LISTINGS: [&str; 3] = ["listing", "films", "records"];
 const REQUESTS: [&str; 4] = ["film_listings", "starts", "writing", "sync"];
 
 fn vectors_of(name: &str) -> vectors::Vectors {
@@ -34,6 +34,7 @@ fn vectors_of(name: &str) -> vectors::Vectors {
         "tables" => &[sbgp::vectors, csgp::vectors],
         "document" => &[sbgp::document, csgp::document],
         "descriptions" => &[sgpd::vectors, entries::vectors],
+        "records" => &[sgpd::records, entries::records],
         "listing" => &[listing::vectors],
         "films" => &[film::vectors],
         "film_listings" => &[film::listing_vectors],

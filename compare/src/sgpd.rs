@@ -91,14 +91,8 @@ fn compare(tally: &mut Tally, random: &mut Random, s: &[u8]) {
         tally.same("entry", ffi::entry_place(&input, s.len(), index), entry(&told, &found, index), &|| format!("{index} of {}", shown()));
     }
     // all at once: a number too few for them, then enough and one that has no partner
-    let all: Vec<(u32, u32)> = found.iter().map(|&[place, size]| (place as u32, size as u32)).collect();
-    for numbers in [(2 * all.len()).saturating_sub(1), 2 * all.len() + 1] {
-        let expected = match &told {
-            Err(e) => Answer::Refused(number(e)),
-            Ok(_) if numbers / 2 < all.len() => Answer::Refused(29),
-            Ok(_) => Answer::Given(all.clone()),
-        };
-        tally.same("entry_places", ffi::entry_places(&input, s.len(), numbers), expected, &|| format!("{numbers} numbers for {}", shown()));
+    for numbers in [(2 * found.len()).saturating_sub(1), 2 * found.len() + 1] {
+        tally.same("entry_places", ffi::entry_places(&input, s.len(), numbers), all_places(&told, &found, numbers), &|| format!("{numbers} numbers for {}", shown()));
     }
     input.check();
 }
@@ -345,17 +339,18 @@ fn random_bytes(n: usize) -> Vec<u8> {
     Random::new(n as u64 + 100).bytes(n)
 }
 
-/// Entries 9 and 10: parse_sgpd and entry_place.
-pub fn vectors(out: &mut Vectors) {
+/// What entry_places answers with a run of so many numbers.
+fn all_places(told: &Result<SampleGroupDescription>, found: &[[u64; 2]], numbers: usize) -> Answer<Vec<(u32, u32)>> {
+    match told {
+        Err(e) => Answer::Refused(number(e)),
+        Ok(_) if numbers / 2 < found.len() => Answer::Refused(29),
+        Ok(_) => Answer::Given(found.iter().map(|&[place, size]| (place as u32, size as u32)).collect()),
+    }
+}
+
+/// Payloads that are stored: those of document 01's cases, one that is cut at every byte, and others.
+fn stored(mut add: impl FnMut(&[u8])) {
     let mut random = Random::new(11);
-    let mut add = |s: &[u8]| {
-        let told = sample_groups::parse_sgpd(s);
-        out.add(9, &[], s, theirs(&told).map(|n| n.to_vec()));
-        let found = told.as_ref().map_or(vec![], |d| places(s, d));
-        for index in 0..=(found.len() as u32 + 1).min(4) {
-            out.add(10, &[index as u64], s, entry(&told, &found, index).map(|n| n.to_vec()));
-        }
-    };
     for (count, len) in [(3, 9), (2, 3), (2, 2)] {
         add(&payload(&mut Random::new(12), 0, b"abcd", 0, count, &random_bytes(len)));
     }
@@ -375,4 +370,33 @@ pub fn vectors(out: &mut Vectors) {
         }
         add(&s);
     }
+}
+
+/// Entries 9 and 10: parse_sgpd and entry_place.
+pub fn vectors(out: &mut Vectors) {
+    stored(|s| {
+        let told = sample_groups::parse_sgpd(s);
+        out.add(9, &[], s, theirs(&told).map(|n| n.to_vec()));
+        let found = told.as_ref().map_or(vec![], |d| places(s, d));
+        for index in 0..=(found.len() as u32 + 1).min(4) {
+            out.add(10, &[index as u64], s, entry(&told, &found, index).map(|n| n.to_vec()));
+        }
+    });
+}
+
+/// Entry 35: entry_places, with a number too few for all entries, then with enough and one that has no partner.
+pub fn records(out: &mut Vectors) {
+    stored(|s| {
+        let told = sample_groups::parse_sgpd(s);
+        let found = told.as_ref().map_or(vec![], |d| places(s, d));
+        for numbers in [(2 * found.len()).saturating_sub(1), 2 * found.len() + 1] {
+            out.add(35, &[numbers as u64], s, all_places(&told, &found, numbers).map(|all| records_of(&all)));
+        }
+    });
+}
+
+/// How many records, then their numbers.
+pub fn records_of(all: &[(u32, u32)]) -> Vec<u64> {
+    let numbers = all.iter().flat_map(|&(a, b)| [a as u64, b as u64]);
+    std::iter::once(all.len() as u64).chain(numbers).collect()
 }

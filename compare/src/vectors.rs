@@ -34,8 +34,10 @@ const STATUSES: [(u8, &[u8]); 22] = [
     (22, &[20, 21, 22, 24, 25, 26, 27, 28]),
 ];
 
-/// The same of the cue listing and of the search for an stbl, whose damaged lines are a file of their own.
-const LISTING: [(u8, &[u8]); 2] = [
+/// The same of the cue listing, of the search for an stbl and of all entries or points at once, whose damaged lines are a file of their own.
+const LISTING: [(u8, &[u8]); 4] = [
+    (35, &[29, 30, 31, 32, 33, 34, 35]),
+    (36, &[29, 40, 41, 42, 43]),
     (24, &[1, 2, 3, 4, 5, 6, 11, 60, 61]),
     (23, &[1, 2, 3, 4, 5, 6, 8, 20, 21, 22, 23, 24, 25, 26, 27, 28, 29, 30, 31, 32, 33, 34, 35, 40, 41, 42, 43, 44, 45, 50, 51, 52, 53, 54]),
 ];

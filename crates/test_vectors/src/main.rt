@@ -32,7 +32,7 @@ fn agrees(record: &[u8]) -> bool {
         21..=22 => test_vectors_tables::agrees(record),
         23..=27 => test_vectors_listing::agrees(record),
         28..=31 => test_vectors_writing::agrees(record),
-        32..=34 => test_vectors_tables::agrees(record),
+        32..=36 => test_vectors_tables::agrees(record),
         _ => test_vectors_descriptions::agrees(record),
     }
 }
@@ -80,6 +80,7 @@ fn main() {
     replay(b"tables");
     replay(b"document");
     replay(b"descriptions");
+    replay(b"records");
     replay(b"listing");
     replay(b"film_listings");
     replay(b"starts");

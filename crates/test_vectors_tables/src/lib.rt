@@ -1,14 +1,21 @@
-// Stored answers for sample tables, lookups, and sync and dependency tables: whether the library gives the answer that a record has.
+// Stored answers for sample tables, lookups, all entries or points at once, and sync and dependency tables: whether the library gives the answer that a record has.
 
-// The record has this status and, with 0, the table's head and then its rows.
-fn same_table(record: &[u8], status: u32, head: &[u64], count: u64, rows: &[u32]) -> bool {
+// The record has this status and, with 0, the table's head, of so many bytes, and then its rows.
+fn same_table(
+    record: &[u8],
+    status: u32,
+    head: &[u64],
+    size: usize,
+    count: u64,
+    rows: &[u32],
+) -> bool {
     if test_vector_lines::same_status(record, status) {
         if status != 0 {
             return true;
         }
         let seen = test_vector_lines::numbers(record);
-        if test_vector_lines::same_numbers(test_vector_lines::front(seen, 24), head) {
-            return same_rows(test_vector_lines::rest(seen, 24), rows, count);
+        if test_vector_lines::same_numbers(test_vector_lines::front(seen, size), head) {
+            return same_rows(test_vector_lines::rest(seen, size), rows, count);
         }
     }
     false
@@ -77,9 +84,27 @@ fn table(record: &[u8]) -> bool {
 }
 
 fn parsed(record: &[u8], rows: &mut [u32]) -> bool {
+    if 34 < test_vector_lines::entry(record) {
+        return filled(record, rows);
+    }
     let mut out = [0u64; 3];
     let status = parse(record, rows, &mut out);
-    same_table(record, status, &[out[0], out[1], out[2]], out[2], rows)
+    same_table(record, status, &[out[0], out[1], out[2]], 24, out[2], rows)
+}
+
+// All entries, or all points: their number, and two numbers of each.
+fn filled(record: &[u8], run: &mut [u32]) -> bool {
+    let mut out = [0u64; 1];
+    let status = fill(record, run, &mut out);
+    same_table(record, status, &[out[0]], 8, out[0], run)
+}
+
+fn fill(record: &[u8], run: &mut [u32], out: &mut [u64; 1]) -> u32 {
+    if test_vector_lines::entry(record) == 35 {
+        film_descriptions::film_entry_places(test_vector_lines::input(record), run, out)
+    } else {
+        film_entries::film_rash_operation_points(test_vector_lines::input(record), run, out)
+    }
 }
 
 fn parse(record: &[u8], rows: &mut [u32], out: &mut [u64; 3]) -> u32 {
@@ -188,6 +213,8 @@ pub fn agrees(record: &[u8]) -> bool {
         32 => sync(record),
         33 => sync(record),
         34 => dependency(record),
+        35 => table(record),
+        36 => table(record),
         _ => false,
     }
 }
