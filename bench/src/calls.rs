@@ -39,10 +39,12 @@ pub type Numbered = unsafe extern "C" fn(*const u8, usize, u32, *mut u64) -> u32
 pub type Parser = unsafe extern "C" fn(*const u8, usize, *mut u32, usize, *mut u64) -> u32;
 
 /// Calls that write into a lent array.
+#[inline(always)]
 pub fn read_into(call: Reader, s: &[u8], out: &mut [u64; 5]) -> u32 {
     black_box(unsafe { call(s.as_ptr(), s.len(), out.as_mut_ptr()) })
 }
 
+#[inline(always)]
 pub fn numbered_into(call: Numbered, s: &[u8], k: u32, out: &mut [u64; 2]) -> u32 {
     black_box(unsafe { call(s.as_ptr(), s.len(), k, out.as_mut_ptr()) })
 }
@@ -63,6 +65,14 @@ pub fn parse(call: Parser, s: &[u8], rows: &mut [u32]) -> (u32, u64) {
     let status = unsafe { call(s.as_ptr(), s.len(), rows.as_mut_ptr(), rows.len(), out.as_mut_ptr()) };
     black_box(&out);
     (status, out[2])
+}
+
+/// The status and the number of records of a call that fills a run.
+pub fn fill(call: Parser, s: &[u8], run: &mut [u32]) -> (u32, u64) {
+    let mut out = [0; 1];
+    let status = unsafe { call(s.as_ptr(), s.len(), run.as_mut_ptr(), run.len(), out.as_mut_ptr()) };
+    black_box(&out);
+    (status, out[0])
 }
 
 pub fn look_up_into(rows: &[u32], sample: u32, out: &mut [u64; 1]) -> u32 {

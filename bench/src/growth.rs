@@ -74,14 +74,14 @@ pub fn run(bench: &mut Bench) {
     bench.grow("covered_samples", "rows", rows, |r| drop(covered(r)));
     for (kind, prefixed) in [("one length", false), ("lengths", true)] {
         bench.grow(&format!("parse_sgpd, {kind}"), "entries", |n| sgpd(n, prefixed), |s| assert_eq!(read(film_parse_sgpd, s).0, 0));
-        bench.grow(&format!("entry_places, {kind}"), "entries", |n| with_rows(sgpd(n, prefixed), n), |(s, places)| assert_eq!(parse(film_entry_places, s, places).0, 0));
+        bench.grow(&format!("entry_places, {kind}"), "entries", |n| with_rows(sgpd(n, prefixed), n), |(s, places)| assert_eq!(fill(film_entry_places, s, places).0, 0));
         bench.grow(&format!("entry_place, {kind}, the last"), "entries", |n| (n, sgpd(n, prefixed)), |(n, s)| assert_eq!(numbered(film_entry_place, s, *n).0, 0));
         bench.grow(&format!("described_place, {kind}, the last of the fragment's"), "entries of each", |n| (n, sgpd(n, prefixed)), |(n, s)| {
             assert_eq!(described(s, s, 0x8000_0000 | *n).0, 0)
         });
     }
     bench.grow("decode_rash", "points", |n| rash(n as u16 + 1), |s| assert_eq!(read(film_decode_rash, s).0, 0));
-    bench.grow("rash_operation_points", "points", |n| with_rows(rash(n as u16 + 1), n + 1), |(s, points)| assert_eq!(parse(film_rash_operation_points, s, points).0, 0));
+    bench.grow("rash_operation_points", "points", |n| with_rows(rash(n as u16 + 1), n + 1), |(s, points)| assert_eq!(fill(film_rash_operation_points, s, points).0, 0));
     bench.grow("rash_operation_point, the last", "points", |n| (n, rash(n as u16 + 1)), |(n, s)| assert_eq!(numbered(film_rash_operation_point, s, *n).0, 0));
     bench.grow("decode_alst", "offsets and as many pieces", |n| alst(n as u16, n as usize), |s| assert_eq!(read(film_decode_alst, s).0, 0));
     bench.grow("alst_sample_offset, the last", "offsets", |n| (n, alst(n as u16, 1)), |(n, s)| assert_eq!(numbered(film_alst_sample_offset, s, *n - 1).0, 0));

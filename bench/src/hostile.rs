@@ -71,7 +71,10 @@ pub fn run(bench: &mut Bench) {
             (format!("place {}", told.1[0]), 16)
         });
     }
-    bench.parsed("entry_places: all of the same", film_entry_places, &lengths, 1_000_000);
+    let mut places = vec![0u32; 2_000_000];
+    bench.suffer("entry_places: all of the same", lengths.len(), 1_000_000, || fill(film_entry_places, &lengths, &mut places), |told| {
+        (format!("{} entries", told.1), 8 * told.1 + 8)
+    });
     bench.suffer("described_place: the same as film-wide and as fragment's", 2 * lengths.len(), 0, || described(&lengths, &lengths, 0x8000_0000 | 1_000_000), |told| {
         (format!("place {}", told.1[1]), 24)
     });

@@ -67,7 +67,7 @@ pub fn samples(bench: &mut Bench) {
     let sgpd = sgpd_of(b"roll", &[vec![0, 0], vec![0, 0]]);
     for shape in ["an sbgp row", "csgp [1]", "csgp [1,2]"] {
         for last in [false, true] {
-            for samples in [1, 1000, 1_000_000, u32::MAX] {
+            for samples in [1, 2, 1000, 1_000_000, u32::MAX] {
                 let table = match shape {
                     "an sbgp row" => {
                         let row = [[0; 4], *b"roll", 1u32.to_be_bytes(), samples.to_be_bytes(), 1u32.to_be_bytes()].concat();
