@@ -3,11 +3,12 @@
 use mathlib.Core.Path.{_≡_, refl}
 use mathlib.Core.Bool.{Bool, true, false}
 use mathlib.Core.List.{List}
-use Prim.Native.Nat.{ℕ, _≤_}
+use Prim.Native.Nat.{ℕ, _/_, _≤_}
 use native.Mathlib.Omega.{arith}
 use lib.Dec.{ltb}
 use lib.ListN.{length}
 use Rattle.base_fields.specs.Answer.{Answer, given, none, refused, choose, refuseIf, noneIf, andThen, within, inputLimit}
+use Rattle.base_fields.specs.Records.{roomFor}
 
 abbrev pub RefusesBy : (ℕ → Type 0) → Type 0 → {A : Type 0} → Answer A → Type 0
 RefusesBy R N (given a) = Unit
@@ -42,3 +43,7 @@ Numbered a = RefusesBy Number Unit a
 
 pub numbered-within : {A : Type 0} (s : List ℕ) (rest : Answer A) → Numbered rest → Numbered (within s rest)
 numbered-within s rest n = by-within Number Unit s rest (omega arith, omega arith) n
+
+-- 29 of a run with fewer records than values
+pub room-numbered : {A : Type 0} (run : List ℕ) (l : List A) → Numbered (roomFor run l)
+room-numbered run l = by-refuseIf Number Unit (ltb (length run / 2) (length l)) 29 (given l) (omega arith, omega arith) tt

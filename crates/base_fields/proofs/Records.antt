@@ -1,10 +1,10 @@
 -- Laws of records of two numbers each in a lent run.
 use mathlib.Core.Path.{_≡_, refl}
-use Prim.Native.Nat.{ℕ, suc, _+_, _*_, _<_, _≤_}
+use Prim.Native.Nat.{ℕ, suc, _+_, _*_, _<_}
 use native.Mathlib.Numerals.{add-one}
 use native.Mathlib.Omega.{arith}
 use mathlib.Core.List.{List, [], _∷_, _++_, append-assoc}
-use lib.ListN.{length, getD, drop, set, length-drop, length-append}
+use lib.ListN.{length, getD, drop, set, length-append}
 use lib.Seq.{drop-cons, set-at}
 use Rattle.base_fields.specs.Records.{numbersOf}
 
@@ -29,9 +29,6 @@ module _ {A : Type 0} (f g : A → ℕ) where
   -- a run whose first records are the values
   abbrev pub inRun : List A → List ℕ → List ℕ
   inRun l run = numbersOf f g l ++ drop (2 * length l) run
-
-  pub inRun-length : (l : List A) (run : List ℕ) → 2 * length l ≤ length run → length (inRun l run) ≡ length run
-  inRun-length l run h = simp (length-append, numbers-length, length-drop) (omega arith)
 
   -- one value more, written behind them
   pub put-next : (l : List A) (a : A) (run : List ℕ) → 2 * length l + 1 < length run →

@@ -1,4 +1,4 @@
-// What the functions of the C interface share (the film_ crates): numbers and slices only. Each of them returns a status: 0 and the values
+// What the functions of the C interface share (the film_ crates): numbers and slices only. Each that can refuse returns a status: 0 and the values
 // in `out`, NONE, or the number of a refusal. include/film_index.h declares them for C.
 ghost use mathlib.Core.Path.{_≡_};
 ghost use Rattle.base_fields.specs.Records.{toldRecords};

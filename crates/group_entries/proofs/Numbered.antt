@@ -5,8 +5,8 @@ use lib.Dec.{ltb, leb, eqb}
 use lib.ListN.{length}
 use borrow.Author.Needs.{needs}
 use Rattle.base_fields.specs.Answer.{Answer, within}
-use Rattle.base_fields.proofs.Numbered.{RefusesBy, Number, Numbered, by-refuseIf, by-noneIf, by-andThen, numbered-within}
-use Rattle.group_entries.specs.Decoded.{pointCount, pointsEnd, offsetsEnd, decodeRoll, decodeRap, decodeTele, decodeSap, decodeRash, decodeAlst, pointAt, offsetAt, pairAt, byNumber, rashPoint, alstOffset, alstPair}
+use Rattle.base_fields.proofs.Numbered.{RefusesBy, Number, Numbered, by-refuseIf, by-noneIf, by-andThen, numbered-within, room-numbered}
+use Rattle.group_entries.specs.Decoded.{pointCount, pointsEnd, offsetsEnd, decodeRoll, decodeRap, decodeTele, decodeSap, decodeRash, decodeAlst, pointAt, offsetAt, pairAt, upTo, byNumber, rashPoint, rashPoints, alstOffset, alstPair}
 use Rattle.group_entries.specs.Layout.{layoutOf, decodeAs, decode}
 use Rattle.group_entries.specs.declared.EntryLayout.{EntryLayout}
 use Rattle.group_entries.specs.declared.EntryLayout.the-variants.{Roll, Rap, Tele, Sap, Rash, Alst, Raw}
@@ -80,6 +80,10 @@ module _ (s : List ℕ) where
 
   pub point-numbered : (k : ℕ) → Numbered (within s (rashPoint s k))
   point-numbered k = numbered-within s _ (read-numbered (decodeRash s) _ k (pointAt s k) (rash-by Number Unit s (search needs)))
+
+  pub points-numbered : (run : List ℕ) → Numbered (within s (rashPoints s run))
+  points-numbered run =
+      numbered-within s _ (by-andThen Number Unit (decodeRash s) _ (rash-by Number Unit s (search needs)) (λ r e. room-numbered run (upTo (pointAt s) 0 (r .points))))
 
   pub offset-numbered : (k : ℕ) → Numbered (within s (alstOffset s k))
   offset-numbered k = numbered-within s _ (read-numbered (decodeAlst s) _ k (offsetAt s k) (alst-by Number Unit s (search needs)))

@@ -6,8 +6,8 @@ use lib.ListN.{length}
 use borrow.Author.Needs.{needs}
 use Rattle.base_fields.specs.Answer.{choose}
 use Rattle.base_fields.specs.Span.{Span}
-use Rattle.base_fields.proofs.Numbered.{RefusesBy, Number, Numbered, by-choose, by-refuseIf, by-noneIf, by-within, by-andThen}
-use Rattle.group_sgpd.specs.Sgpd.{version, groupingType, defaultLength, entryCountPlace, entryCount, implicitLength, declaredEntry, spanAt, spans, sgpd, parseSgpd, pick, entryAt}
+use Rattle.base_fields.proofs.Numbered.{RefusesBy, Number, Numbered, by-choose, by-refuseIf, by-noneIf, by-within, by-andThen, room-numbered}
+use Rattle.group_sgpd.specs.Sgpd.{version, groupingType, defaultLength, entryCountPlace, entryCount, implicitLength, declaredEntry, spanAt, spans, sgpd, parseSgpd, pick, entryAt, allEntries}
 
 module _ (R : ℕ → Type 0) (N : Type 0) (s : List ℕ) where
   declared-by : R 33 × R 34 → (p : ℕ) → RefusesBy R N (declaredEntry s p)
@@ -49,3 +49,6 @@ module _ (s : List ℕ) where
 
   pub entry-numbered : (i : ℕ) → Numbered (entryAt s i)
   entry-numbered i = by-andThen Number Unit (sgpd s) _ sgpd-numbered (λ es e. pick-numbered es i)
+
+  pub all-numbered : (run : List ℕ) → Numbered (allEntries s run)
+  all-numbered run = by-andThen Number Unit (sgpd s) _ sgpd-numbered (λ es e. room-numbered run es)
