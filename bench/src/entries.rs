@@ -225,11 +225,12 @@ impl Bench {
             self.likeness(&format!("alst of {offsets} offsets"), b"alst", s.clone(), s.clone());
             self.likeness(&format!("alst of {offsets} offsets"), b"alst", s.clone(), odd_end(&s));
         }
-        for size in [8, 1000] {
+        for size in [1, 3, 7, 8, 16, 32, 64, 100, 129, 500, 1000] {
             // no decoder: two slices are compared, by what the machine has for that
+            let name = format!("{size} byte{} of an unknown type", if size == 1 { "" } else { "s" });
             let s = vec![7; size];
-            self.likeness(&format!("{size} bytes of an unknown type"), b"abcd", s.clone(), s.clone());
-            self.likeness(&format!("{size} bytes of an unknown type"), b"abcd", s.clone(), odd_end(&s));
+            self.likeness(&name, b"abcd", s.clone(), s.clone());
+            self.likeness(&name, b"abcd", s.clone(), odd_end(&s));
         }
     }
 }

@@ -220,6 +220,16 @@ pub fn run(tally: &mut Tally) {
         }
         compare_likeness(tally, kind, &a, &b);
     }
+    // Entries of a type without a decoder, of every length to 300: alike, and each byte of the second changed in turn.
+    for len in 0..=300 {
+        let a = random.bytes(len);
+        compare_likeness(tally, b"abcd", &a, &a);
+        for k in 0..len {
+            let mut b = a.clone();
+            b[k] ^= 1 << random.below(8);
+            compare_likeness(tally, b"abcd", &a, &b);
+        }
+    }
 }
 
 /// Entries that are stored: document 01's distances, one of each long layout cut at every byte, and others.

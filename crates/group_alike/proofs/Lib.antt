@@ -1,4 +1,5 @@
 pub mod Over
+pub mod Differing
 pub mod Fronts
 pub mod Decides
 pub mod Pairs

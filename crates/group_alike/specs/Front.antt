@@ -58,6 +58,11 @@ lowFirst (suc w) s p k = beAt 1 s (p + k) + 256 * lowFirst w s p (suc k)
 abbrev pub Over : List ℕ → List ℕ → ℕ → ℕ → Type 0
 Over a b p w = (i : ℕ) → p ≤ i → i < p + w → getD a i 0 ≡ getD b i 0
 
+-- 0 exactly where the w bytes from place p are the same
+pub record ZeroWhereSame (a b : List ℕ) (p w r : ℕ) : Type 0 where
+  pub same : r ≡ 0 → Over a b p w
+  pub none : Over a b p w → r ≡ 0
+
 -- the bytes from the first to before n agree in what the decoder reads
 abbrev pub Agree : EntryLayout → List ℕ → List ℕ → ℕ → Type 0
 Agree l a b n = (i : ℕ) → i < n → significantOf l (getD a i 0) ≡ significantOf l (getD b i 0)

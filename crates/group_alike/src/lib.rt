@@ -1,6 +1,7 @@
 // Whether two entries of one grouping type decode to the same value (document 01, part 8: like meanings).
 use base_fields::INPUT_LIMIT;
 use base_fields::read_u8;
+use base_fields::read_u32;
 use group_entries::DecodedAlst;
 use group_entries::DecodedRap;
 use group_entries::DecodedRash;
@@ -13,7 +14,7 @@ ghost use Prim.Native.Nat.{ℕ, _+_, _≤_};
 ghost use lib.Dec.{eqb};
 ghost use lib.ListN.{length};
 ghost use Rattle.base_fields.specs.Answer.{given, andThen, inputLimit};
-ghost use Rattle.group_alike.specs.Front.{AllBytes, lowFirst, significantOf, GivesSame, Short, alikeAs, LeftOf, FrontIs, frontSize, toldFrontSize, toldLikeness};
+ghost use Rattle.group_alike.specs.Front.{AllBytes, lowFirst, significantOf, GivesSame, ZeroWhereSame, Short, alikeAs, LeftOf, FrontIs, frontSize, toldFrontSize, toldLikeness};
 ghost use Rattle.group_entries.specs.Layout.{decodeAs};
 ghost use Rattle.group_entries.specs.declared.EntryLayout.the-variants.{Roll, Rash, Alst};
 ghost use Rattle.group_alike.specs.Alike.{toldAlike, alike};
@@ -111,18 +112,99 @@ fn eight_at(s: &[u8], at: usize) -> u64
     low + high
 }
 
-// Whether the first n bytes are the same: by eights, then byte by byte.
+// The bits in which eight bytes from a place differ.
+fn differing_8(a: &[u8], b: &[u8], at: usize) -> u64
+    requires { ⌜ (at + 8 ≤ length (now a)) × (at + 8 ≤ length (now b)) ⌝ }
+    ensures { λ r. ⌜ ZeroWhereSame (now (a .entry)) (now (b .entry)) at 8 r ⌝ }
+{
+    eight_at(a, at) ^ eight_at(b, at)
+}
+
+// The bits in which the eights of 32 bytes differ.
+fn differing_32(a: &[u8], b: &[u8], at: usize) -> u64
+    requires { ⌜ (at + 32 ≤ length (now a)) × (at + 32 ≤ length (now b)) ⌝ }
+    ensures { λ r. ⌜ ZeroWhereSame (now (a .entry)) (now (b .entry)) at 32 r ⌝ }
+{
+    differing_8(a, b, at)
+        | differing_8(a, b, at + 8)
+        | differing_8(a, b, at + 16)
+        | differing_8(a, b, at + 24)
+}
+
+// Those of 128 bytes: without a branch between them, so that the compiler can compare several eights in one instruction.
+fn differing_128(a: &[u8], b: &[u8], at: usize) -> u64
+    requires { ⌜ (at + 128 ≤ length (now a)) × (at + 128 ≤ length (now b)) ⌝ }
+    ensures { λ r. ⌜ ZeroWhereSame (now (a .entry)) (now (b .entry)) at 128 r ⌝ }
+{
+    differing_32(a, b, at)
+        | differing_32(a, b, at + 32)
+        | differing_32(a, b, at + 64)
+        | differing_32(a, b, at + 96)
+}
+
+// Whether the first n bytes are the same, n at least 128: block by block, then the last 128, some of which may have been looked at.
+fn same_blocks(a: &[u8], b: &[u8], n: usize) -> bool
+    requires { ⌜ (128 ≤ n) × (n ≤ length (now a)) × (n ≤ length (now b)) ⌝ }
+    ensures { λ r. ⌜ GivesSame (now (a .entry)) (now (b .entry)) n r ⌝ }
+{
+    let last = n - 128;
+    let mut i: usize = 0;
+    while i < last {
+        if differing_128(a, b, i) != 0 {
+            return false;
+        }
+        i += 128;
+    }
+    differing_128(a, b, last) == 0
+}
+
+// The same for 8 to 128 bytes: from both ends, so that there is no loop; the two may overlap.
+fn same_ends(a: &[u8], b: &[u8], n: usize) -> bool
+    requires { ⌜ (8 ≤ n) × (n ≤ 128) × (n ≤ length (now a)) × (n ≤ length (now b)) ⌝ }
+    ensures { λ r. ⌜ GivesSame (now (a .entry)) (now (b .entry)) n r ⌝ }
+{
+    if 64 <= n {
+        let front = differing_32(a, b, 0) | differing_32(a, b, 32);
+        let back = differing_32(a, b, n - 64) | differing_32(a, b, n - 32);
+        return front | back == 0;
+    }
+    if 32 <= n {
+        return differing_32(a, b, 0) | differing_32(a, b, n - 32) == 0;
+    }
+    if 16 <= n {
+        let front = differing_8(a, b, 0) | differing_8(a, b, 8);
+        let back = differing_8(a, b, n - 16) | differing_8(a, b, n - 8);
+        return front | back == 0;
+    }
+    differing_8(a, b, 0) | differing_8(a, b, n - 8) == 0
+}
+
+// The same for 4 to 8 bytes.
+fn same_fours(a: &[u8], b: &[u8], n: usize) -> bool
+    requires { ⌜ (4 ≤ n) × (n ≤ 8) × (n ≤ length (now a)) × (n ≤ length (now b)) ⌝ }
+    ensures { λ r. ⌜ GivesSame (now (a .entry)) (now (b .entry)) n r ⌝ }
+{
+    if read_u32(a, 0) != read_u32(b, 0) {
+        return false;
+    }
+    read_u32(a, n - 4) == read_u32(b, n - 4)
+}
+
+// Whether the first n bytes are the same.
 fn same_bytes(a: &[u8], b: &[u8], n: usize) -> bool
     requires { ⌜ (n ≤ length (now a)) × (n ≤ length (now b)) ⌝ }
     ensures { λ r. ⌜ GivesSame (now (a .entry)) (now (b .entry)) n r ⌝ }
 {
-    let mut i: usize = 0;
-    while 8 <= n - i {
-        if eight_at(a, i) != eight_at(b, i) {
-            return false;
-        }
-        i += 8;
+    if 128 <= n {
+        return same_blocks(a, b, n);
     }
+    if 8 <= n {
+        return same_ends(a, b, n);
+    }
+    if 4 <= n {
+        return same_fours(a, b, n);
+    }
+    let mut i: usize = 0;
     while i < n {
         if a[i] != b[i] {
             return false;
