@@ -1,7 +1,7 @@
 -- The answers of the level's steps, case by case, from what the code's tests tell.
 use mathlib.Core.Path.{_≡_, refl, ap, sym, _∙_}
 use mathlib.Core.Bool.{Bool, true, false}
-use mathlib.Core.List.{List, [], _∷_}
+use mathlib.Core.List.{List, _∷_}
 use Prim.Native.Nat.{ℕ, zero, suc, _+_, _-_, _<_, _≤_}
 use native.Mathlib.Omega.{arith}
 use lib.Dec.{eqb}
@@ -45,10 +45,6 @@ module _ (c : Child) (t : ℕ) (missing : ℕ) (rest : List Span) where
   behind-passed zero h e = absurd (e refl)
   behind-passed (suc n) h e = let z : suc n - 1 ≡ n = omega arith in simp (eq-eqb (c .head .type) t h, z)
 
--- no level is left
-pub levels-none : (k : ℕ) {n : ℕ} → n ≡ 0 → levelsLeft n k ≡ []
-levels-none k e = rw e refl
-
 -- the top is the level with five to go
 pub top-level : {top : Bool} {n : ℕ} → top ≡ eqb n 5 → top ≡ true → n ≡ 5
 top-level {top} {n} e f = eqb-true n 5 (sym e ∙ f)
@@ -63,9 +59,13 @@ module _ (s : List ℕ) where
   unfolding descend
   down-refused b e f = rw (e, f) refl
 
-  pub down-end : {ls : List Level} (b : Span) → ls ≡ [] → given b ≡ descend s ls b
+  -- the last level's answer
+  pub down-last : (k : ℕ) {n : ℕ} {l : Level} (b : Span) (a : Answer Span) → n ≡ 1 → levelsLeft n k ≡ l ∷ levelsLeft (n - 1) k → a ≡ atLevel s l b
+      → a ≡ descend s (levelsLeft n k) b
   unfolding descend
-  down-end b e = rw e refl
+  down-last k b (given x) e f g = rw (f, e, ← g) refl
+  down-last k b answer.none e f g = rw (f, e, ← g) refl
+  down-last k b (refused m) e f g = rw (f, e, ← g) refl
 
   pub stbl-long : (k : ℕ) → inputLimit < length s → refused 55 ≡ stblAt s k
   unfolding stblAt

@@ -2,7 +2,7 @@
 mod level;
 
 ghost use mathlib.Core.Path.{_≡_};
-ghost use Prim.Native.Nat.{_+_, _≤_};
+ghost use Prim.Native.Nat.{_+_, _<_, _≤_};
 ghost use lib.ListN.{length};
 ghost use Rattle.base_fields.specs.Answer.{inputLimit};
 ghost use Rattle.atom_path.specs.Path.{descend, stblAt};
@@ -24,15 +24,15 @@ pub enum FoundBody {
     Refused(u32),
 }
 
-// Goes down the levels that are left, each within the container above it. What stands in a frame of this recursion is kept small.
+// Goes down the levels that are left, each within the container above it; the last one gives the answer. What stands in a frame of this recursion is kept small.
 fn search_below(s: &[u8], track: u32, levels: u32, place: u64, size: u64) -> FoundBody
-    requires { ⌜ (length (now s) ≤ inputLimit) × (levels ≤ 5) × (place + size ≤ length (now s)) × (levels ≡ 5 → place + size ≡ length (now s)) ⌝ }
+    requires { ⌜ (length (now s) ≤ inputLimit) × (0 < levels) × (levels ≤ 5) × (place + size ≤ length (now s)) × (levels ≡ 5 → place + size ≡ length (now s)) ⌝ }
     ensures { λ r. ⌜ toldBody r ≡ descend (now (s .entry)) (levelsLeft levels track) (record { place = place; size = size }) ⌝ }
 {
-    if levels == 0 {
-        return FoundBody::Body(Container { place, size });
-    }
     let found = search_level(s, track, levels, place, size);
+    if levels == 1 {
+        return found;
+    }
     match found {
         FoundBody::Body(inner) => search_below(s, track, levels - 1, inner.place, inner.size),
         FoundBody::Refused(n) => FoundBody::Refused(n),

@@ -4,7 +4,7 @@ use native.Mathlib.Omega.{arith}
 use borrow.Author.Needs.{needs}
 use Rattle.atom_path.specs.Told.{toldBody}
 use Rattle.atom_path.proofs.Bodies.{level-within}
-use Rattle.atom_path.proofs.Cases.{down-end, down-level, down-refused, levels-none}
+use Rattle.atom_path.proofs.Cases.{down-last, down-level, down-refused}
 use Prim.Native.Nat.{ℕ, _<_}
 use borrow.Fn.Kinds.{In}
 use borrow.Fn.PlainCycle.{Measures, is, falls, and}
@@ -30,22 +30,22 @@ search-below-below t =
     (falls 1 search-below-kinds.ps _<_ μ-search-below t)
     search-below.Pre
 
-search-below-returns : (t : ℕ) → search-below-lts.Need-returns (
-  search-level-reads.Asked,
-  search-level-reads.Learnt,
-  search-below-below t,
-  search-below.Post,
-) (search-below-at t) search-below.Post
-search-below-returns t c = let a = c .before .before .args in down-end (a .s .now) (record { place = a .place; size = a .size }) (levels-none (a .track) (c .if1 .taken))
-
 search-below-search-level-requires : (t : ℕ) → search-below-lts.Need-search-level-requires (
   search-level-reads.Asked,
   search-level-reads.Learnt,
   search-below-below t,
   search-below.Post,
 ) (search-below-at t) search-below.Post
-search-below-search-level-requires t c κs = let start = c .before .before in
-    (start .pre .1 .0, omega arith, start .pre .1 .1, start .pre .1 .2, start .pre .1 .3)
+search-below-search-level-requires t c κs = c .before .pre .1
+
+search-below-returns : (t : ℕ) → search-below-lts.Need-returns (
+  search-level-reads.Asked,
+  search-level-reads.Learnt,
+  search-below-below t,
+  search-below.Post,
+) (search-below-at t) search-below.Post
+search-below-returns t c = let level = c .before .search-level .ensures in
+    down-last _ _ _ _ (c .if1 .taken) (level .left) (level .told)
 
 search-below-enum-known-found : (t : ℕ) → search-below-lts.Need-enum-known-found (
   search-level-reads.Asked,
@@ -69,15 +69,16 @@ search-below-search-below-requires : (t : ℕ) → search-below-lts.Need-search-
   search-below-below t,
   search-below.Post,
 ) (search-below-at t) search-below.Post
-search-below-search-below-requires t c κs = let found = c .before .before .before in
-    let start = found .before .before .before in
-    let a = start .args in (
-      omega (arith, start .pre .0),
+search-below-search-below-requires t c κs = let searched = c .before .before .before .before in
+    let pre = searched .before .before .pre in
+    let level = searched .search-level .ensures in (
+      omega arith,
       (
-        start .pre .1 .0,
-        omega (arith, start .pre .1 .1),
-        level-within (a .s .now) (found .search-level .ensures .level) (record { place = a .place; size = a .size }) (start .pre .1 .2) (sym (found .search-level .ensures .told) ∙ ap toldBody (c .before .found .given .1)),
-        λ e. absurd (omega (arith, start .pre .1 .1, e)),
+        pre .1 .0,
+        omega arith,
+        omega arith,
+        level-within _ (level .level) _ (pre .1 .3) (sym (level .told) ∙ ap toldBody (c .before .found .given .1)),
+        λ e. absurd (omega arith),
       ),
     )
 
@@ -95,11 +96,8 @@ search-below-returns-2 : (t : ℕ) → search-below-lts.Need-returns-2 (
   search-below-below t,
   search-below.Post,
 ) (search-below-at t) search-below.Post
-search-below-returns-2 t c = let found = c .before .before .before .before in
-    let start = found .before .before .before in
-    let a = start .args in
-    c .search-below .ensures
-    ∙ down-level (a .s .now) (record { place = a .place; size = a .size }) (found .search-level .ensures .left) (sym (found .search-level .ensures .told) ∙ ap toldBody (c .before .before .found .given .1))
+search-below-returns-2 t c = let level = c .before .before .before .before .before .search-level .ensures in
+    c .search-below .ensures ∙ down-level _ _ (level .left) (sym (level .told) ∙ ap toldBody (c .before .before .found .given .1))
 
 search-below-returns-3 : (t : ℕ) → search-below-lts.Need-returns-3 (
   search-level-reads.Asked,
@@ -107,9 +105,8 @@ search-below-returns-3 : (t : ℕ) → search-below-lts.Need-returns-3 (
   search-below-below t,
   search-below.Post,
 ) (search-below-at t) search-below.Post
-search-below-returns-3 t c = let found = c .before .before .before in
-    let a = found .before .before .before .args in
-    down-refused (a .s .now) (record { place = a .place; size = a .size }) (found .search-level .ensures .left) (sym (found .search-level .ensures .told) ∙ ap toldBody (c .before .found2 .given .1))
+search-below-returns-3 t c = let level = c .before .before .before .before .search-level .ensures in
+    down-refused _ _ (level .left) (sym (level .told) ∙ ap toldBody (c .before .found2 .given .1))
 
 pub +search-below-spec : {M : Type 1} → statement M
 +search-below-spec = close μ-search-below λ t. search-below-lts.spec (
@@ -120,8 +117,8 @@ pub +search-below-spec : {M : Type 1} → statement M
 )
     (search-below-at t)
     search-below.Post
-    (search-below-returns t)
     (search-below-search-level-requires t)
+    (search-below-returns t)
     (search-below-enum-known-found t)
     (search-below-sub-search-below t)
     (search-below-search-below-requires t)
