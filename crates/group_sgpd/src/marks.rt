@@ -24,19 +24,19 @@ fn marks_apart(count: u32) -> u32
 }
 
 // The places of the entries 1, 1 + n, 1 + 2n, .. where n is marks_apart(head.entry_count).
-pub fn entry_marks(s: &[u8], head: SgpdHead) -> [usize; 16]
+pub fn entry_marks(s: &[u8], head: SgpdHead) -> [u32; 16]
     requires { ⌜ ReadWhole (now s) head ⌝ }
     ensures { λ r. ⌜ Marks (now (s .entry)) r ⌝ }
 {
     let lengths = lengths_by(head.version, head.grouping_type, head.default_length);
     let count = head.entry_count;
     let apart = marks_apart(count);
-    let mut marks: [usize; 16] = [0; 16];
+    let mut marks: [u32; 16] = [0; 16];
     let mut at = head.first;
     let mut left = count;
     let mut k: usize = 0;
     while k < MARKS {
-        marks[k] = at;
+        marks[k] = at as u32;
         if left <= apart {
             return marks;
         }
@@ -56,7 +56,7 @@ pub fn entry_marks(s: &[u8], head: SgpdHead) -> [usize; 16]
 pub fn marked_entry(
     s: &[u8],
     head: SgpdHead,
-    marks: &[usize; 16],
+    marks: &[u32; 16],
     index: DescriptionIndex,
 ) -> FoundEntry
     requires { ⌜ (ReadWhole (now s) head) × (Marks (now s) (now marks)) ⌝ }
@@ -72,7 +72,7 @@ pub fn marked_entry(
     let apart = marks_apart(head.entry_count);
     let k = (i - 1) / apart;
     let at = k as usize;
-    let place = marks[at];
+    let place = marks[at] as usize;
     let cursor = EntryCursor {
         index: DescriptionIndex(k * apart + 1),
         place,

@@ -55,7 +55,7 @@ fn check_meaning(grouping_type: u32, s: &[u8], meaning: MeaningAt) -> Checked
 fn check_index(
     s: &[u8],
     head: SgpdHead,
-    marks: &[usize; 16],
+    marks: &[u32; 16],
     grouping_type: u32,
     last: DescriptionIndex,
     index: DescriptionIndex,
@@ -75,7 +75,7 @@ fn check_pattern(
     pattern: PatternAt,
     s: &[u8],
     head: SgpdHead,
-    marks: &[usize; 16],
+    marks: &[u32; 16],
     grouping_type: u32,
     before: DescriptionIndex,
 ) -> CheckedPattern
@@ -104,7 +104,7 @@ pub fn check_used(
     table: SampleTable,
     s: &[u8],
     head: SgpdHead,
-    marks: &[usize; 16],
+    marks: &[u32; 16],
     grouping_type: u32,
 ) -> Checked
     requires { ⌜ (WholeIn (now «table_s») table (allIn table)) × (ReadWhole (now s) head) × (Marks (now s) (now marks)) ⌝ }

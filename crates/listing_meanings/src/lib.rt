@@ -26,12 +26,7 @@ pub enum Checked {
 }
 
 // The meaning of an index, from the landmarks of a payload that was read whole.
-pub fn meaning_at(
-    s: &[u8],
-    head: SgpdHead,
-    marks: &[usize; 16],
-    index: DescriptionIndex,
-) -> MeaningAt
+pub fn meaning_at(s: &[u8], head: SgpdHead, marks: &[u32; 16], index: DescriptionIndex) -> MeaningAt
     requires { ⌜ (ReadWhole (now s) head) × (Marks (now s) (now marks)) ⌝ }
     ensures { λ r. ⌜ GivesMeaning (now (s .entry)) (index .0) r ⌝ }
 {

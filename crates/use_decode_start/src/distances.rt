@@ -74,7 +74,7 @@ fn meaning_distance(grouping_type: u32, s: &[u8], meaning: MeaningAt) -> Decoded
 pub fn index_distance(
     s: &[u8],
     head: SgpdHead,
-    marks: &[usize; 16],
+    marks: &[u32; 16],
     grouping_type: u32,
     index: DescriptionIndex,
 ) -> Decoded

@@ -41,7 +41,7 @@ fn search_pattern(
     pattern: PatternAt,
     s: &[u8],
     head: SgpdHead,
-    marks: &[usize; 16],
+    marks: &[u32; 16],
     grouping_type: u32,
     wanted: u64,
     start: u64,
@@ -75,7 +75,7 @@ pub fn search_table(
     table: SampleTable,
     s: &[u8],
     head: SgpdHead,
-    marks: &[usize; 16],
+    marks: &[u32; 16],
     grouping_type: u32,
     wanted: u64,
 ) -> SearchedFor

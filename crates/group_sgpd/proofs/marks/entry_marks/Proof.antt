@@ -67,6 +67,12 @@ loop-holds c =
     let start = c .before .before .before in
     (refl, omega (arith, zero-mul (c .marks-apart .result)), rw (zero-mul, first-is (start .pre .head)) refl, λ j h. absurd (omega arith))
 
+-- a place within the payload is below 2^32
+cast-marks : tie.Need-cast-marks Inv-loop μ-loop
+cast-marks c =
+    let l = c .before in
+    omega (arith, first-inside (start l .pre .head) _ (l .loop .inv .2), start l .pre .head .short)
+
 mul-marks : tie.Need-mul-marks Inv-loop μ-loop
 mul-marks c = search needs
 
@@ -130,6 +136,7 @@ entry-marks-spec =
     lengths-by-requires
     marks-apart-requires
     loop-holds
+    cast-marks
     mul-marks
     array-write-marks
     returns

@@ -7,7 +7,7 @@ use Rattle.group_sgpd.specs.Sgpd.{entryCount}
 use Rattle.group_sgpd.specs.Head.{OnEntry}
 use Rattle.group_sgpd.specs.Marks.{marksApart}
 use Rattle.group_sgpd.proofs.Heads.{count-is}
-use Rattle.group_sgpd.proofs.Onward.{entry-none}
+use Rattle.group_sgpd.proofs.Onward.{entry-none, first-inside}
 use Rattle.group_sgpd.proofs.Marked.{mark-below, mark-there, on-mark}
 use borrow.Author.Needs.{needs}
 use Rattle.group_sgpd.proofs.marks.marked_entry.Statement.{statement}
@@ -72,11 +72,16 @@ mul-place c = omega (arith, there c)
 element-copy-out-place : tie.Need-element-copy-out-place
 element-copy-out-place c = there c
 
+cast-place : tie.Need-cast-place
+cast-place c =
+    let here = c .before in
+    omega (arith, first-inside (start here .pre .0 .head) _ (on here .place), start here .pre .0 .head .short)
+
 mul-t13 : tie.Need-mul-t13
 mul-t13 c = omega (arith, below (c .before))
 
-add-t18 : tie.Need-add-t18
-add-t18 c = omega (arith, below (c .before))
+add-t17 : tie.Need-add-t17
+add-t17 c = omega (arith, below (c .before))
 
 entry-onward-requires : tie.Need-entry-onward-requires
 entry-onward-requires c κs =
@@ -98,7 +103,8 @@ marked-entry-spec =
     cast-at
     mul-place
     element-copy-out-place
+    cast-place
     mul-t13
-    add-t18
+    add-t17
     entry-onward-requires
     returns-3)
