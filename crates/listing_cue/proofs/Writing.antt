@@ -17,8 +17,9 @@ use Rattle.listing_numbers.specs.Store.{stored, Puts}
 use Rattle.listing_numbers.proofs.Stores.{stored-append}
 use Rattle.listing_meanings.specs.Meant.{HasMeaning}
 use Rattle.listing_stretches.specs.Ahead.{bytesAhead}
-use Rattle.listing_stretches.specs.Entered.{InHand, meaningBy, GivesEntered, GivesBegun, GivesClosed}
+use Rattle.listing_stretches.specs.Entered.{InHand, Recalls, meaningBy, GivesEntered, GivesBegun, GivesClosed}
 use Rattle.listing_stretches.specs.declared.Progress.{Progress}
+use Rattle.listing_stretches.proofs.Entering.{recalls-none}
 use Rattle.listing_stretches.proofs.Repeats.{map-append}
 use Rattle.listing_stretches.proofs.Marks.{map-replicate}
 use Rattle.listing_measure.specs.Measured.{meaningsBy}
@@ -51,24 +52,27 @@ module _ (t : ℕ) (s : List ℕ) where
 
   -- from what was in hand at the start and the output there
   module _ (all : List Row) (start : Progress) (out : List ℕ) where
-    pub record Writing (rs : List Row) (here : Progress) (now : List ℕ) : Type 0 where
+    pub record Writing (rs : List Row) (memory : List ℕ) (here : Progress) (now : List ℕ) : Type 0 where
       pub bytes : stored (toCome start all) (start .hand .at) out ≡ stored (toCome here rs) (here .hand .at) now
       pub ends : here .hand .at + length (toCome here rs) ≡ start .hand .at + length (toCome start all)
       pub held : InHand t s here
+      pub alike : Recalls t s here memory
       pub mean : RowsMean t s rs
       pub samples : here .hand .samples + covered rs ≤ coveredLimit
 
-    pub writing-first : {h : SgpdHead} → ReadWhole s h → (n : ℕ) → n ≡ covered all → n ≤ coveredLimit → RowsMean t s all → {before : List ℕ} → GivesBegun t n before out start → Writing all start out
-    writing-first w n count small mean b =
+    pub writing-first : {h : SgpdHead} → ReadWhole s h → (n : ℕ) → n ≡ covered all → n ≤ coveredLimit → RowsMean t s all → {before : List ℕ} → GivesBegun t n before out start
+        → {memory : List ℕ} → length memory ≡ 16 → Writing all memory start out
+    writing-first w n count small mean b places =
         record {
           bytes = refl;
           ends = refl;
           held = rw (b .hand) (held-first t s w (length (typeBytes t ++ groups n)));
+          alike = rw (b .hand) (recalls-none _ _ _ places);
           mean = mean;
           samples = rw (b .hand) (omega (arith, count, small));
         }
 
-    module _ (r : Row) (rs : List Row) (here : Progress) (now : List ℕ) (x : Writing (r ∷ rs) here now) where
+    module _ (r : Row) (rs : List Row) {memory : List ℕ} (here : Progress) (now : List ℕ) (x : Writing (r ∷ rs) memory here now) where
       pub row-means : 0 < r .count → HasMeaning t s (r .index)
       unfolding covered indexAt
       row-means h = rw (lt-ltb 0 (r .count) h) at (x .mean 0 (omega arith))
@@ -89,25 +93,26 @@ module _ (t : ℕ) (s : List ℕ) where
       row-then = map-append (meaningBy t s) (replicate (r .count) (r .index)) (expand rs) ∙ rw (map-replicate (meaningBy t s) (r .count) (r .index)) refl
 
       -- a row of no samples
-      pub writing-none : r .count ≡ 0 → Writing rs here now
+      pub writing-none : r .count ≡ 0 → Writing rs memory here now
       unfolding covered
       writing-none e =
           let same : meaningsBy t s (expand (r ∷ rs)) ≡ meaningsBy t s (expand rs) = row-then ∙ rw e refl in
-          record { bytes = x .bytes ∙ rw same refl; ends = rw (← same) (x .ends); held = x .held; mean = rest-mean; samples = omega (arith, x .samples) }
+          record { bytes = x .bytes ∙ rw same refl; ends = rw (← same) (x .ends); held = x .held; alike = x .alike; mean = rest-mean; samples = omega (arith, x .samples) }
 
-      pub writing-next : {after : List ℕ} {next : Progress} → GivesEntered t s now after here (r .count) (r .index) next → Writing rs next after
+      pub writing-next : {after later : List ℕ} {next : Progress} → GivesEntered t s now after here (r .count) (r .index) next → Recalls t s next later → Writing rs later next after
       unfolding covered
-      writing-next {after} {next} g =
+      writing-next {next = next} g alike =
           let come : toCome here (r ∷ rs) ≡ g .written ++ toCome next rs = rw row-then (g .bytes (meaningsBy t s (expand rs))) in
           record {
             bytes = x .bytes ∙ rw come (stored-append (g .written) (toCome next rs) (here .hand .at) now ∙ rw (← (g .next), ← (g .output)) refl);
             ends = omega (arith, rw come at (x .ends), length-append (g .written) (toCome next rs), g .next);
             held = g .held;
+            alike = alike;
             mean = rest-mean;
             samples = omega (arith, g .samples, x .samples);
           }
 
     -- the last stretch
-    pub writing-last : (here : Progress) (now : List ℕ) → Writing [] here now → {after : List ℕ} {r : ℕ} → GivesClosed t s now after here r → Puts (toCome start all) (start .hand .at) out after r
+    pub writing-last : {memory : List ℕ} (here : Progress) (now : List ℕ) → Writing [] memory here now → {after : List ℕ} {r : ℕ} → GivesClosed t s now after here r → Puts (toCome start all) (start .hand .at) out after r
     unfolding expand
     writing-last here now x g = record { output = g .puts .output ∙ sym (x .bytes); next = omega (arith, g .puts .next, x .ends) }

@@ -21,7 +21,7 @@ pub fn write_listing(
     grouping_type: u32,
     s: &[u8],
     head: SgpdHead,
-    marks: &[usize; 16],
+    marks: &[u32; 16],
     rows: &[RowNumber],
     samples: u64,
     out: &mut [u8],
@@ -30,13 +30,24 @@ pub fn write_listing(
     requires { ⌜ (samples ≡ covered (rowsOf (now rows))) × (samples ≤ coveredLimit) × (length (rowListing «grouping_type» (now s) (rowsOf (now rows))) ≤ outputLimit) ⌝ }
     ensures { λ r. ⌜ Puts (rowListing «grouping_type» (now (s .entry)) (rowsOf (now (rows .entry)))) 0 (now (out .entry)) (now (out .exit)) r ⌝ }
 {
+    let mut memory: [u32; 16] = [0; 16];
     let mut progress = begin_listing(grouping_type, samples, out);
     let mut i: usize = 0;
     while i + 1 < rows.len() {
         let count = rows[i];
         let index = DescriptionIndex(rows[i + 1]);
         if 0 < count {
-            progress = enter_run(grouping_type, s, head, marks, out, progress, count, index);
+            progress = enter_run(
+                grouping_type,
+                s,
+                head,
+                marks,
+                &mut memory,
+                out,
+                progress,
+                count,
+                index,
+            );
         }
         i = i + 2;
     }

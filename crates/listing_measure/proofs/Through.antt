@@ -16,10 +16,10 @@ use Rattle.listing_meanings.specs.Meant.{GivesMeaning}
 use Rattle.listing_meanings.specs.declared.MeaningAt.the-variants as at
 use Rattle.listing_meanings.proofs.Found.{gives-outside, has-outside}
 use Rattle.listing_stretches.specs.Ahead.{bytesAhead, endAfter, Moves}
-use Rattle.listing_stretches.specs.Entered.{InHand, meaningBy, GivesBegun, begunWith}
+use Rattle.listing_stretches.specs.Entered.{InHand, Recalls, meaningBy, GivesBegun, begunWith}
 use Rattle.listing_stretches.specs.declared.Progress.{Progress}
 use Rattle.listing_stretches.proofs.Ahead.{listing-ahead}
-use Rattle.listing_stretches.proofs.Entering.{filled-means}
+use Rattle.listing_stretches.proofs.Entering.{recalls-none}
 use Rattle.listing_stretches.proofs.Repeats.{map-append}
 use Rattle.listing_measure.specs.Measured.{AllMean, Measures, meaningsBy, listingOf, GivesMeasuring, GivesEnd, GivesLength}
 use Rattle.listing_measure.specs.declared.Measuring.the-variants as measuring
@@ -33,17 +33,18 @@ map-length f (x ∷ l) = ap suc (map-length f l)
 
 -- nothing in hand has the meaning of index 0
 pub held-first : (t : ℕ) (s : List ℕ) {h : SgpdHead} → ReadWhole s h → (n : ℕ) → InHand t s (begunWith n 0 0 at.Outside)
-held-first t s w n = record { meant = gives-outside w 0 refl; known = has-outside w 0 t refl; alike = filled-means (meaningBy t s) 0 refl }
+held-first t s w n = record { meant = gives-outside w 0 refl; known = has-outside w 0 t refl }
 
 -- a listing by what it begins with
 pub listing-begins : (t : ℕ) (s : List ℕ) (l : List ℕ) → listing t (meaningsBy t s l) ≡ (typeBytes t ++ groups (length l)) ++ bytesAhead 0 (meaningBy t s 0) (meaningsBy t s l)
 listing-begins t s l = listing-ahead t (meaningBy t s 0) (meaningsBy t s l) ∙ rw (map-length (meaningBy t s) l) refl
 
 module _ (t : ℕ) (s : List ℕ) (all : List Pattern) (limit : ℕ) where
-  pub record Through (ahead : List Pattern) (here : Progress) : Type 0 where
+  pub record Through (ahead : List Pattern) (memory : List ℕ) (here : Progress) : Type 0 where
     pub ends : length (listingOf t s all) ≡ endAfter (meaningBy t s) (here .hand) (meaningsBy t s (samplesOf ahead))
     pub near : here .hand .at ≤ limit
     pub held : InHand t s here
+    pub alike : Recalls t s here memory
     pub mean : AllMean t s ahead
     pub samples : here .hand .samples + coveredBy ahead ≤ coveredLimit
 
@@ -57,17 +58,18 @@ module _ (t : ℕ) (s : List ℕ) (all : List Pattern) (limit : ℕ) where
     pub over-first : limit < r .hand .at → limit < length (listingOf t s all)
     over-first h = omega (arith, ends-first, h)
 
-    pub through-first : {h : SgpdHead} → ReadWhole s h → AllMean t s all → n ≤ coveredLimit → r .hand .at ≤ limit → Through all r
-    through-first w mean small near =
+    pub through-first : {h : SgpdHead} → ReadWhole s h → AllMean t s all → n ≤ coveredLimit → r .hand .at ≤ limit → {memory : List ℕ} → length memory ≡ 16 → Through all memory r
+    through-first w mean small near places =
         record {
           ends = ends-first;
           near = near;
           held = rw (b .hand) (held-first t s w _);
+          alike = rw (b .hand) (recalls-none _ _ _ places);
           mean = mean;
           samples = rw (b .hand) (omega (arith, count, small));
         }
 
-  module _ (p : Pattern) (ahead : List Pattern) (here : Progress) (x : Through (p ∷ ahead) here) where
+  module _ (p : Pattern) (ahead : List Pattern) {memory : List ℕ} (here : Progress) (x : Through (p ∷ ahead) memory here) where
     -- the samples of the first pattern, then the others
     first-then : meaningsBy t s (samplesOf (p ∷ ahead)) ≡ meaningsBy t s (samplesFrom p 0 (p .count)) ++ meaningsBy t s (samplesOf ahead)
     unfolding samplesOf
@@ -77,21 +79,22 @@ module _ (t : ℕ) (s : List ℕ) (all : List Pattern) (limit : ℕ) where
     unfolding coveredBy
     first-fits = omega (arith, x .samples)
 
-    pub over-next : GivesMeasuring t s p here limit measuring.Over → limit < length (listingOf t s all)
+    pub over-next : GivesMeasuring t s p here limit memory measuring.Over → limit < length (listingOf t s all)
     over-next g = rw (x .ends, first-then) (g (meaningsBy t s (samplesOf ahead)))
 
-    pub through-next : {next : Progress} → Measures t s p here limit next → Through ahead next
+    pub through-next : {later : List ℕ} {next : Progress} → Measures t s p here limit later next → Through ahead later next
     unfolding coveredBy
     through-next m =
         record {
           ends = x .ends ∙ rw first-then (m .moves (meaningsBy t s (samplesOf ahead)));
           near = m .near;
           held = m .held;
+          alike = m .alike;
           mean = mean-rest t s p ahead (x .mean);
           samples = omega (arith, m .samples, x .samples);
         }
 
-  pub through-end : (here : Progress) → Through [] here → (r : MeasuredListing) → GivesEnd t s here limit r → GivesLength t s all limit r
+  pub through-end : {memory : List ℕ} (here : Progress) → Through [] memory here → (r : MeasuredListing) → GivesEnd t s here limit r → GivesLength t s all limit r
   unfolding samplesOf
   through-end here x (measured.Bytes n) g = (g .0 ∙ sym (x .ends), g .1)
   through-end here x measured.Over g = rw (x .ends) g

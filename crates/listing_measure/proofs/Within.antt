@@ -14,7 +14,7 @@ use Rattle.table_runs.specs.Patterns.{coveredLimit}
 use Rattle.listing_theorem.specs.Meaning.{Meaning}
 use Rattle.listing_meanings.specs.Meant.{HasMeaning}
 use Rattle.listing_stretches.specs.Ahead.{endAfter, Moves}
-use Rattle.listing_stretches.specs.Entered.{InHand, meaningBy, GivesEntered}
+use Rattle.listing_stretches.specs.Entered.{InHand, Recalls, meaningBy, GivesEntered}
 use Rattle.listing_stretches.specs.Passed.{Passes, Later, Overlong}
 use Rattle.listing_stretches.specs.declared.Hand.{Hand}
 use Rattle.listing_stretches.specs.declared.Mark.{Mark}
@@ -37,18 +37,20 @@ later-samples : (mark : Mark) (hand : Hand) (k size n : ℕ) (next : Hand) → L
 later-samples mark hand k size n next = ⊎-elim (λ z. rw (z .1) (omega arith)) (⊎-elim (λ l. rw (l .1) (omega arith)) (λ l. rw (l .1) (omega arith)))
 
 module _ (t : ℕ) (s : List ℕ) (p : Pattern) (from : Progress) (limit : ℕ) where
-  pub record Within (k : ℕ) (here : Progress) (mark : Mark) : Type 0 where
+  pub record Within (k : ℕ) (memory : List ℕ) (here : Progress) (mark : Mark) : Type 0 where
     pub held : InHand t s here
+    pub alike : Recalls t s here memory
     pub passed : k ≤ p .count
     pub moves : Moves (meaningBy t s) p 0 k (from .hand) (here .hand)
     pub marked : Marked (meaningBy t s) p k (here .hand) mark
     pub near : here .hand .at ≤ limit
     pub samples : here .hand .samples ≤ from .hand .samples + k
 
-  pub within-first : InHand t s from → from .hand .at ≤ limit → Within 0 from (record { sample = 0; hand = from .hand })
-  within-first held near =
+  pub within-first : {memory : List ℕ} → InHand t s from → Recalls t s from memory → from .hand .at ≤ limit → Within 0 memory from (record { sample = 0; hand = from .hand })
+  within-first held alike near =
       record {
         held = held;
+        alike = alike;
         passed = omega arith;
         moves = moves-none (meaningBy t s) p 0 (from .hand);
         marked = marked-new (meaningBy t s) p 0 (from .hand);
@@ -56,13 +58,13 @@ module _ (t : ℕ) (s : List ℕ) (p : Pattern) (from : Progress) (limit : ℕ) 
         samples = omega arith;
       }
 
-  pub within-last : {k : ℕ} {here : Progress} {mark : Mark} → Within k here mark → p .count ≤ k → Measures t s p from limit here
-  within-last {k} {here} w h =
+  pub within-last : {k : ℕ} {memory : List ℕ} {here : Progress} {mark : Mark} → Within k memory here mark → p .count ≤ k → Measures t s p from limit memory here
+  within-last {k} w h =
       let e : k ≡ p .count = omega (arith, w .passed) in
-      record { held = w .held; moves = rw e at (w .moves); near = w .near; samples = omega (arith, w .samples) }
+      record { held = w .held; alike = w .alike; moves = rw e at (w .moves); near = w .near; samples = omega (arith, w .samples) }
 
   -- the next run
-  module _ (k : ℕ) (here : Progress) (mark : Mark) (w : Within k here mark) (r : Run) (g : GivesRun p k r) where
+  module _ (k : ℕ) {memory : List ℕ} (here : Progress) (mark : Mark) (w : Within k memory here mark) (r : Run) (g : GivesRun p k r) where
     pub run-means : PatternMeans t s p → HasMeaning t s (r .index)
     run-means all = rw (run-index p k r g) at (all k (omega (arith, g .some, g .within)))
 
@@ -94,14 +96,15 @@ module _ (t : ℕ) (s : List ℕ) (p : Pattern) (from : Progress) (limit : ℕ) 
             moves-over m p (k + r .count) (q .periods * length (p .indices)) (p .count) limit (from .hand) (next .hand) to-run (q .within)
             (passed-over m p (k + r .count) (next .hand) mark at-run (p .count) limit q)
 
-        pub within-next : {hand : Hand} {j : ℕ} {to : Mark} → Passes mark (next .hand) (k + r .count) size (p .count) limit hand j to
-            → Within j (record { hand = hand; meaning = next .meaning; memory = next .memory }) to
-        within-next {hand} {j} {to} a =
+        pub within-next : {hand : Hand} {j : ℕ} {to : Mark} {later : List ℕ} → Passes mark (next .hand) (k + r .count) size (p .count) limit hand j to → Recalls t s next later
+            → Within j later (record { hand = hand; meaning = next .meaning; kept = next .kept }) to
+        within-next {hand} {j} {to} a alike =
             let q = rw same at a in
             let index = later-index mark (next .hand) (k + r .count) (length (p .indices)) (q .periods) hand (q .later) in
             let far : k + r .count + (j - (k + r .count)) ≡ j = omega (arith, q .sample) in
             record {
-              held = record { meant = rw index (e .held .meant); known = rw index (e .held .known); alike = rw index (e .held .alike) };
+              held = record { meant = rw index (e .held .meant); known = rw index (e .held .known) };
+              alike = rw index alike;
               passed = omega (arith, q .sample, q .within);
               moves =
                   rw far at

@@ -8,7 +8,7 @@ use Rattle.listing_theorem.specs.Meaning.{Meaning}
 use Rattle.listing_theorem.specs.Listing.{listing}
 use Rattle.listing_meanings.specs.Meant.{HasMeaning}
 use Rattle.listing_stretches.specs.Ahead.{endAfter, Moves}
-use Rattle.listing_stretches.specs.Entered.{InHand, meaningBy}
+use Rattle.listing_stretches.specs.Entered.{InHand, Recalls, meaningBy}
 use Rattle.listing_stretches.specs.declared.Progress.{Progress}
 use Rattle.listing_measure.specs.declared.Measuring.{Measuring}
 use Rattle.listing_measure.specs.declared.Measuring.the-variants as measuring
@@ -27,16 +27,17 @@ abbrev pub meaningsBy : ℕ → List ℕ → List ℕ → List Meaning
 meaningsBy t s l = map (meaningBy t s) l
 
 -- a pattern's samples take one hand to the next
-pub record Measures (t : ℕ) (s : List ℕ) (p : Pattern) (from : Progress) (limit : ℕ) (r : Progress) : Type 0 where
+pub record Measures (t : ℕ) (s : List ℕ) (p : Pattern) (from : Progress) (limit : ℕ) (memory : List ℕ) (r : Progress) : Type 0 where
   pub held : InHand t s r
+  pub alike : Recalls t s r memory
   pub moves : Moves (meaningBy t s) p 0 (p .count) (from .hand) (r .hand)
   pub near : r .hand .at ≤ limit
   pub samples : r .hand .samples ≤ from .hand .samples + p .count
 
 -- or the output passes the limit, whatever follows
-abbrev pub GivesMeasuring : ℕ → List ℕ → Pattern → Progress → ℕ → Measuring → Type 0
-GivesMeasuring t s p from limit (measuring.Next r) = Measures t s p from limit r
-GivesMeasuring t s p from limit measuring.Over =
+abbrev pub GivesMeasuring : ℕ → List ℕ → Pattern → Progress → ℕ → List ℕ → Measuring → Type 0
+GivesMeasuring t s p from limit memory (measuring.Next r) = Measures t s p from limit memory r
+GivesMeasuring t s p from limit memory measuring.Over =
     (rest : List Meaning) → limit < endAfter (meaningBy t s) (from .hand) (meaningsBy t s (samplesFrom p 0 (p .count)) ++ rest)
 
 -- the listing of a table's samples

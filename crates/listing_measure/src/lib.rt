@@ -24,7 +24,7 @@ ghost use Rattle.table_rows.specs.Pattern.{coveredBy};
 ghost use Rattle.table_patterns.specs.Place.{patternIn, Stands};
 ghost use Rattle.table_runs.specs.Ahead.{allIn, aheadIn, WholeIn};
 ghost use Rattle.table_runs.specs.Patterns.{coveredLimit};
-ghost use Rattle.listing_stretches.specs.Entered.{outputLimit, InHand};
+ghost use Rattle.listing_stretches.specs.Entered.{outputLimit, InHand, Recalls};
 ghost use Rattle.listing_measure.specs.Measured.{PatternMeans, AllMean, GivesMeasuring, GivesEnd, GivesLength};
 
 pub enum Measuring {
@@ -47,15 +47,16 @@ fn measure_pattern(
     pattern: PatternAt,
     s: &[u8],
     head: SgpdHead,
-    marks: &[usize; 16],
+    marks: &[u32; 16],
+    memory: &mut [u32; 16],
     out: &mut [u8],
     progress: Progress,
     limit: usize,
 ) -> Measuring
     requires { ⌜ (Stands (now «table_s») pattern) × (ReadWhole (now s) head) × (Marks (now s) (now marks)) ⌝ }
-    requires { ⌜ (PatternMeans «grouping_type» (now s) (patternIn (now «table_s») pattern)) × (InHand «grouping_type» (now s) progress) ⌝ }
+    requires { ⌜ (PatternMeans «grouping_type» (now s) (patternIn (now «table_s») pattern)) × (InHand «grouping_type» (now s) progress) × (Recalls «grouping_type» (now s) progress (now memory)) ⌝ }
     requires { ⌜ (progress .hand .at ≤ limit) × (limit ≤ outputLimit) × (progress .hand .samples + pattern .count ≤ coveredLimit) ⌝ }
-    ensures { λ r. ⌜ GivesMeasuring «grouping_type» (now (s .entry)) (patternIn (now («table_s» .entry)) pattern) progress limit r ⌝ }
+    ensures { λ r. ⌜ GivesMeasuring «grouping_type» (now (s .entry)) (patternIn (now («table_s» .entry)) pattern) progress limit (now (memory .exit)) r ⌝ }
 {
     let count = pattern.count;
     let mut here = progress;
@@ -68,7 +69,17 @@ fn measure_pattern(
     while k < count {
         let run = run_at(table_s, pattern, k);
         let index = DescriptionIndex(run.index);
-        let entered = enter_run(grouping_type, s, head, marks, out, here, run.count, index);
+        let entered = enter_run(
+            grouping_type,
+            s,
+            head,
+            marks,
+            memory,
+            out,
+            here,
+            run.count,
+            index,
+        );
         let hand = entered.hand;
         if limit < hand.at {
             return Measuring::Over;
@@ -76,11 +87,11 @@ fn measure_pattern(
         match pass_periods(mark, hand, k + run.count, pattern.length, count, limit) {
             Passed::On(next, sample, to) => {
                 let meaning = entered.meaning;
-                let memory = entered.memory;
+                let kept = entered.kept;
                 here = Progress {
                     hand: next,
                     meaning,
-                    memory,
+                    kept,
                 };
                 k = sample;
                 mark = to;
@@ -117,7 +128,7 @@ pub fn measure_listing(
     table: SampleTable,
     s: &[u8],
     head: SgpdHead,
-    marks: &[usize; 16],
+    marks: &[u32; 16],
     covered: u64,
     out: &mut [u8],
     limit: usize,
@@ -127,6 +138,7 @@ pub fn measure_listing(
     requires { ⌜ (covered ≤ coveredLimit) × (limit ≤ outputLimit) ⌝ }
     ensures { λ r. ⌜ GivesLength «grouping_type» (now (s .entry)) (aheadIn (now («table_s» .entry)) table (allIn table)) limit r ⌝ }
 {
+    let mut memory: [u32; 16] = [0; 16];
     let mut progress = begin_listing(grouping_type, covered, out);
     if limit < progress.hand.at {
         return MeasuredListing::Over;
@@ -142,6 +154,7 @@ pub fn measure_listing(
                     s,
                     head,
                     marks,
+                    &mut memory,
                     out,
                     progress,
                     limit,

@@ -1,10 +1,12 @@
 -- A run entered, case by case: it joins the stretch in hand, begins the first one, or closes that in hand and begins another.
 use mathlib.Core.Path.{_≡_, refl, ap, sym, _∙_}
 use mathlib.Core.List.{List, [], _∷_, _++_, append-assoc}
-use Prim.Native.Nat.{ℕ, _+_, _^_, _≤_, _<_}
-use native.Mathlib.Nat.{zero-add}
+use Prim.Native.Nat.{ℕ, _+_, _%_, _^_, _≤_, _<_}
+use native.Mathlib.Nat.{zero-add, mod-lt, mod-le, mod-eq-of-lt}
+use native.Mathlib.Decide.{decLt}
 use native.Mathlib.Omega.{arith}
-use lib.ListN.{length, replicate, length-append}
+use lib.ListN.{length, getD, replicate, length-append, set, length-set}
+use lib.Seq.{getD-set-same, getD-set-other}
 use Rattle.base_fields.specs.Answer.{Answer, given, none, refused}
 use Rattle.base_fields.proofs.Answers.{given-inj}
 use Rattle.group_sgpd.specs.Head.{ReadWhole}
@@ -21,10 +23,9 @@ use Rattle.listing_meanings.specs.declared.MeaningAt.{MeaningAt}
 use Rattle.listing_meanings.specs.declared.MeaningAt.the-variants as at
 use Rattle.listing_meanings.proofs.Found.{meaning-is, entries-are}
 use Rattle.listing_stretches.specs.Ahead.{bytesAhead, meaningOr, endAfter, Enters}
-use Rattle.listing_stretches.specs.Entered.{InHand, meaningBy, GivesEntered, GivesBegun, GivesClosed, PutsStretch, stretchLimit, joinedBy, begunWith, withLike}
-use Rattle.listing_stretches.specs.Memory.{Remembered, filledWith, withIndex}
+use Rattle.listing_stretches.specs.Entered.{InHand, meaningBy, GivesEntered, GivesBegun, GivesClosed, PutsStretch, stretchLimit, joinedBy, begunWith}
+use Rattle.listing_stretches.specs.Memory.{Remembered}
 use Rattle.listing_stretches.specs.declared.Hand.{Hand}
-use Rattle.listing_stretches.specs.declared.Memory.{Memory}
 use Rattle.listing_stretches.specs.declared.Progress.{Progress}
 use Rattle.listing_stretches.proofs.Ahead.{ahead-join, ahead-first, ahead-close, ahead-last, ahead-none}
 
@@ -34,19 +35,33 @@ stretch-some x e =
     groups-some (x .samples) (groups (kind (x .meaning)) ++ fieldBytes (x .meaning))
     (sym (append-assoc (groups (x .samples)) (groups (kind (x .meaning))) (fieldBytes (x .meaning))) ∙ e)
 
--- the memory of a new stretch, and with one index more
-module _ (m : ℕ → Meaning) {v : Meaning} (i : ℕ) (e : m i ≡ v) where
-  pub filled-means : Remembered m v (filledWith i)
-  filled-means = record { first = (e, e, e, e); second = (e, e, e, e); third = (e, e, e, e); fourth = (e, e, e, e) }
+-- the memory of a new stretch
+pub recalls-none : (m : ℕ → Meaning) (v : Meaning) (l : List ℕ) → length l ≡ 16 → Remembered m v 0 l
+recalls-none m v l places = record { places = places; means = λ k h b. absurd (omega arith) }
 
-  pub more-means : (r : Memory) → Remembered m v r → Remembered m v (withIndex r i)
-  more-means r h =
-      record {
-        first = (e, h .first .0, h .first .1, h .first .2);
-        second = (h .first .3, h .second .0, h .second .1, h .second .2);
-        third = (h .second .3, h .third .0, h .third .1, h .third .2);
-        fourth = (h .third .3, h .fourth .0, h .fourth .1, h .fourth .2);
-      }
+-- one index more, in the place of number kept, which goes round
+module _ (m : ℕ → Meaning) {v : Meaning} {kept i : ℕ} {l : List ℕ} (all : Remembered m v kept l) (e : m i ≡ v) where
+  abbrev place : ℕ
+  place = kept % 16
+
+  pub recalls-more : (next : ℕ) → (kept < 16 → next ≤ kept + 1) → Remembered m v next (set l place i)
+  recalls-more next near = record { places = simp length-set (all .places); means = means }
+    where
+      means : (k : ℕ) → k < 16 → k < next → m (getD (set l place i) k 0) ≡ v
+      means k h b =
+          let low = mod-lt kept {m = 16} (omega arith) in
+          let other : k < kept → (k ≡ place → ⊥) → m (getD (set l place i) k 0) ≡ v = λ below d. rw (getD-set-other l place k i 0 d) (all .means k h below) in
+          elim (decLt k place) [
+            | yes before ↦ other (omega (arith, mod-le kept 16)) (λ f. omega arith)
+            | no behind ↦
+                elim (decLt place k) [
+                  | yes after ↦ other (elim (decLt kept 16) [
+                    | yes few ↦ absurd (omega (arith, near few, mod-eq-of-lt few))
+                    | no many ↦ omega arith
+                  ]) (λ f. omega arith)
+                  | no upTo ↦ let same : k ≡ place = omega arith in rw (same, getD-set-same l place i 0 (omega (arith, all .places))) e
+                ]
+          ]
 
 module _ (t : ℕ) (s : List ℕ) where
   -- the meaning of an index that has one
@@ -60,13 +75,18 @@ module _ (t : ℕ) (s : List ℕ) where
     pub means-by : {i : ℕ} {r : MeaningAt} → GivesMeaning s i r → HasMeaning t s i → Means t s r
     means-by {i} g k = record { inside = g .inside; meaning = meaningBy t s i; given = meant-by g k }
 
+    -- an index whose meaning is told to be like that of the stretch in hand
+    pub like-means : {p : Progress} {i : ℕ} {r : MeaningAt} → InHand t s p → GivesMeaning s i r → HasMeaning t s i → meantAt t s (p .meaning) ≡ meantAt t s r
+        → meaningBy t s i ≡ meaningBy t s (p .hand .index)
+    like-means held g known e = given-inj (sym (meant-by g known) ∙ sym e ∙ meant-by (held .meant) (held .known))
+
     module _ (out : List ℕ) (p : Progress) (n i : ℕ) (some : 0 < n) (held : InHand t s p) (known : HasMeaning t s i) where
-      enter-join : (q : Memory) → Remembered (meaningBy t s) (meaningBy t s (p .hand .index)) q → meaningBy t s i ≡ meaningBy t s (p .hand .index)
-          → GivesEntered t s out out p n i (joinedBy (record { hand = p .hand; meaning = p .meaning; memory = q }) n)
+      -- the number of remembered indices does not matter
+      pub enter-join : (kept : ℕ) → meaningBy t s i ≡ meaningBy t s (p .hand .index) → GivesEntered t s out out p n i (joinedBy p n kept)
       unfolding stored
-      enter-join q alike e =
+      enter-join kept e =
           record {
-            held = record { meant = held .meant; known = held .known; alike = alike };
+            held = record { meant = held .meant; known = held .known };
             written = [];
             output = refl;
             next = omega arith;
@@ -76,24 +96,15 @@ module _ (t : ℕ) (s : List ℕ) where
             near = omega arith;
           }
 
-      pub enter-same : p .hand .index ≡ i → GivesEntered t s out out p n i (joinedBy p n)
-      enter-same e = enter-join (p .memory) (held .alike) (ap (meaningBy t s) (sym e))
-
-      -- an index that is remembered
-      pub enter-known : ((m : ℕ → Meaning) (v : Meaning) → Remembered m v (p .memory) → m i ≡ v) → GivesEntered t s out out p n i (joinedBy p n)
-      enter-known e = enter-join (p .memory) (held .alike) (e (meaningBy t s) (meaningBy t s (p .hand .index)) (held .alike))
+      pub enter-same : (kept : ℕ) → p .hand .index ≡ i → GivesEntered t s out out p n i (joinedBy p n kept)
+      enter-same kept e = enter-join kept (ap (meaningBy t s) (sym e))
 
       module _ {r : MeaningAt} (g : GivesMeaning s i r) where
-        pub enter-like : meantAt t s (p .meaning) ≡ meantAt t s r → GivesEntered t s out out p n i (joinedBy (withLike p i) n)
-        enter-like e =
-            let same = given-inj (sym (meant-by g known) ∙ sym e ∙ meant-by (held .meant) (held .known)) in
-            enter-join (withIndex (p .memory) i) (more-means (meaningBy t s) i same (p .memory) (held .alike)) same
-
         pub enter-first : p .hand .samples ≡ 0 → GivesEntered t s out out p n i (begunWith (p .hand .at) n i r)
         unfolding stored
         enter-first e =
             record {
-              held = record { meant = g; known = known; alike = filled-means (meaningBy t s) i refl };
+              held = record { meant = g; known = known };
               written = [];
               output = refl;
               next = omega arith;
@@ -109,7 +120,7 @@ module _ (t : ℕ) (s : List ℕ) where
             let old = meaningBy t s (p .hand .index) in
             let put = q .puts old (meant-by (held .meant) (held .known)) in
             record {
-              held = record { meant = g; known = known; alike = filled-means (meaningBy t s) i refl };
+              held = record { meant = g; known = known };
               written = stretchBytes (record { samples = p .hand .samples; meaning = old });
               output = put .output;
               next = put .next;

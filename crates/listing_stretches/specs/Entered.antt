@@ -12,7 +12,7 @@ use Rattle.listing_meanings.specs.Meant.{meantAt, meaningIn, GivesMeaning, HasM
 use Rattle.listing_meanings.specs.declared.MeaningAt.{MeaningAt}
 use Rattle.listing_meanings.specs.declared.MeaningAt.the-variants as at
 use Rattle.listing_stretches.specs.Ahead.{bytesAhead, meaningOr}
-use Rattle.listing_stretches.specs.Memory.{Remembered, filledWith, withIndex}
+use Rattle.listing_stretches.specs.Memory.{Remembered}
 use Rattle.listing_stretches.specs.declared.Progress.{Progress}
 
 -- no lent output is longer
@@ -28,25 +28,24 @@ pub record PutsStretch (t : ℕ) (s : List ℕ) (samples : ℕ) (meaning : Meani
   pub puts : (m : Meaning) → meantAt t s meaning ≡ given m → Puts (stretchBytes (record { samples = samples; meaning = m })) p before after next
   pub near : next ≤ p + stretchLimit
 
-abbrev pub joinedBy : Progress → ℕ → Progress
-joinedBy p n = record { hand = record { at = p .hand .at; samples = p .hand .samples + n; index = p .hand .index }; meaning = p .meaning; memory = p .memory }
+abbrev pub joinedBy : Progress → ℕ → ℕ → Progress
+joinedBy p n kept = record { hand = record { at = p .hand .at; samples = p .hand .samples + n; index = p .hand .index }; meaning = p .meaning; kept = kept }
 
 abbrev pub begunWith : ℕ → ℕ → ℕ → MeaningAt → Progress
-begunWith at n i meaning = record { hand = record { at = at; samples = n; index = i }; meaning = meaning; memory = filledWith i }
-
--- an index found alike with the stretch in hand is remembered
-abbrev pub withLike : Progress → ℕ → Progress
-withLike p i = record { hand = p .hand; meaning = p .meaning; memory = withIndex (p .memory) i }
+begunWith at n i meaning = record { hand = record { at = at; samples = n; index = i }; meaning = meaning; kept = 0 }
 
 -- the meaning of an index that has one
 abbrev pub meaningBy : ℕ → List ℕ → ℕ → Meaning
 meaningBy t s i = meaningOr (meaningIn t s i)
 
--- what is in hand has a meaning, it is told, and the indices that are remembered mean the same
+-- what is in hand has a meaning, and it is told
 pub record InHand (t : ℕ) (s : List ℕ) (p : Progress) : Type 0 where
   pub meant : GivesMeaning s (p .hand .index) (p .meaning)
   pub known : HasMeaning t s (p .hand .index)
-  pub alike : Remembered (meaningBy t s) (meaningBy t s (p .hand .index)) (p .memory)
+
+-- the indices that a memory keeps mean the same
+abbrev pub Recalls : ℕ → List ℕ → Progress → List ℕ → Type 0
+Recalls t s p memory = Remembered (meaningBy t s) (meaningBy t s (p .hand .index)) (p .kept) memory
 
 -- n samples of index i, entered into p, leave r in hand. Where nothing was stored and a stretch was in hand, they joined it
 pub record GivesEntered (t : ℕ) (s before after : List ℕ) (p : Progress) (n i : ℕ) (r : Progress) : Type 0 where

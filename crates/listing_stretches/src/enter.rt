@@ -1,7 +1,5 @@
 // Runs of samples entered one after the other: each joins the stretch in hand, or that one is closed and another begins.
-use super::Four;
 use super::Hand;
-use super::Memory;
 use super::Progress;
 use super::recall::remember;
 use super::recall::remembers;
@@ -22,7 +20,7 @@ ghost use Rattle.group_sgpd.specs.Head.{ReadWhole};
 ghost use Rattle.group_sgpd.specs.Marks.{Marks};
 ghost use Rattle.table_runs.specs.Patterns.{coveredLimit};
 ghost use Rattle.listing_meanings.specs.Meant.{Means, HasMeaning};
-ghost use Rattle.listing_stretches.specs.Entered.{outputLimit, PutsStretch, InHand, GivesEntered, joinedBy, begunWith};
+ghost use Rattle.listing_stretches.specs.Entered.{outputLimit, PutsStretch, InHand, Recalls, GivesEntered, joinedBy, begunWith};
 
 // A stretch's length, its kind and the value.
 pub fn put_stretch(
@@ -49,13 +47,12 @@ pub fn put_stretch(
 }
 
 // The stretch in hand with some samples more.
-fn joined(progress: Progress, count: SampleCount) -> Progress
+fn joined(progress: Progress, count: SampleCount, kept: u32) -> Progress
     requires { ⌜ progress .hand .samples + count ≤ coveredLimit ⌝ }
-    ensures { λ r. ⌜ r ≡ joinedBy progress count ⌝ }
+    ensures { λ r. ⌜ r ≡ joinedBy progress count kept ⌝ }
 {
     let hand = progress.hand;
     let meaning = progress.meaning;
-    let memory = progress.memory;
     Progress {
         hand: Hand {
             at: hand.at,
@@ -63,20 +60,14 @@ fn joined(progress: Progress, count: SampleCount) -> Progress
             index: hand.index,
         },
         meaning,
-        memory,
+        kept,
     }
 }
 
-// A new stretch in hand: its first index is all that is remembered.
+// A new stretch in hand: no other index is remembered.
 pub fn begun(at: usize, count: SampleCount, index: DescriptionIndex, meaning: MeaningAt) -> Progress
     ensures { λ r. ⌜ r ≡ begunWith at count (index .0) meaning ⌝ }
 {
-    let four = Four {
-        a: index.0,
-        b: index.0,
-        c: index.0,
-        d: index.0,
-    };
     Progress {
         hand: Hand {
             at,
@@ -84,12 +75,7 @@ pub fn begun(at: usize, count: SampleCount, index: DescriptionIndex, meaning: Me
             index: index.0,
         },
         meaning,
-        memory: Memory {
-            first: four,
-            second: four,
-            third: four,
-            fourth: four,
-        },
+        kept: 0,
     }
 }
 
@@ -98,22 +84,24 @@ pub fn enter_run(
     grouping_type: u32,
     s: &[u8],
     head: SgpdHead,
-    marks: &[usize; 16],
+    marks: &[u32; 16],
+    memory: &mut [u32; 16],
     out: &mut [u8],
     progress: Progress,
     count: SampleCount,
     index: DescriptionIndex,
 ) -> Progress
     requires { ⌜ (ReadWhole (now s) head) × (Marks (now s) (now marks)) × (HasMeaning «grouping_type» (now s) (index .0)) ⌝ }
-    requires { ⌜ (InHand «grouping_type» (now s) progress) × (0 < count) × (progress .hand .samples + count ≤ coveredLimit) × (progress .hand .at ≤ outputLimit) ⌝ }
-    ensures { λ r. ⌜ GivesEntered «grouping_type» (now (s .entry)) (now (out .entry)) (now (out .exit)) progress count (index .0) r ⌝ }
+    requires { ⌜ (InHand «grouping_type» (now s) progress) × (Recalls «grouping_type» (now s) progress (now memory)) × (0 < count) × (progress .hand .samples + count ≤ coveredLimit) × (progress .hand .at ≤ outputLimit) ⌝ }
+    ensures { λ r. ⌜ (GivesEntered «grouping_type» (now (s .entry)) (now (out .entry)) (now (out .exit)) progress count (index .0) r) × (Recalls «grouping_type» (now (s .entry)) r (now (memory .exit))) ⌝ }
 {
     let hand = progress.hand;
+    let kept = progress.kept;
     if hand.index == index.0 {
-        return joined(progress, count);
+        return joined(progress, count, kept);
     }
-    if remembers(progress.memory, index) {
-        return joined(progress, count);
+    if remembers(memory, kept, index) {
+        return joined(progress, count, kept);
     }
     let meaning = meaning_at(s, head, marks, index);
     let current = progress.meaning;
@@ -121,7 +109,7 @@ pub fn enter_run(
         return begun(hand.at, count, index, meaning);
     }
     if like(grouping_type, s, current, meaning) {
-        return joined(remember(progress, index), count);
+        return joined(progress, count, remember(memory, kept, index));
     }
     let at = put_stretch(grouping_type, s, hand.samples, current, out, hand.at);
     begun(at, count, index, meaning)

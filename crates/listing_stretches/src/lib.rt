@@ -20,27 +20,11 @@ pub struct Hand {
     pub index: u32,
 }
 
-// Indices, the newest first.
-pub struct Four {
-    pub a: u32,
-    pub b: u32,
-    pub c: u32,
-    pub d: u32,
-}
-
-// The last sixteen indices that were found to mean what the stretch in hand means, the newest first; where there are fewer, its first one.
-pub struct Memory {
-    pub first: Four,
-    pub second: Four,
-    pub third: Four,
-    pub fourth: Four,
-}
-
-// What is in hand, what its index means, and other indices that mean the same.
+// What is in hand, what its index means, and how many other indices that mean the same were remembered (see `remember`).
 pub struct Progress {
     pub hand: Hand,
     pub meaning: MeaningAt,
-    pub memory: Memory,
+    pub kept: u32,
 }
 
 // What was in hand at a sample of a pattern.

@@ -13,11 +13,11 @@ use Rattle.listing_cue.proofs.write.write_listing.Statement.{statement}
 use Rattle.listing_cue.proofs.write.write_listing.Tie as tie
 
 abbrev Inv-loop : tie.InvT-loop
-Inv-loop grouping-type s head marks rows samples out₀ progress₀ i₀ out progress i =
-    Writing grouping-type s (rowsOf rows) progress₀ out₀ (rowsOf (drop i rows)) progress out × (i ≤ length rows) × (length out ≡ length out₀)
+Inv-loop grouping-type s head marks rows samples out₀ memory₀ progress₀ i₀ out memory progress i =
+    Writing grouping-type s (rowsOf rows) progress₀ out₀ (rowsOf (drop i rows)) memory progress out × (i ≤ length rows) × (length out ≡ length out₀)
 
 abbrev μ-loop : tie.MeasureT-loop
-μ-loop grouping-type s head marks rows samples out₀ progress₀ i₀ out progress i = length rows - i
+μ-loop grouping-type s head marks rows samples out₀ memory₀ progress₀ i₀ out memory progress i = length rows - i
 
 begin-listing-requires : tie.Need-begin-listing-requires Inv-loop μ-loop
 begin-listing-requires c κs = search needs
@@ -26,7 +26,7 @@ loop-holds : tie.Need-loop-holds Inv-loop μ-loop
 loop-holds c =
     let start = c .before .before .before .before .before .before .before in
     let a = start .args in
-    (writing-first (a .grouping-type) (a .s .now) (rowsOf (a .rows .now)) _ _ (start .pre .0 .0) (a .samples) (start .pre .1 .0) (start .pre .1 .1) (start .pre .0 .2) (c .before .before .begin-listing .ensures), omega arith, refl)
+    (writing-first (a .grouping-type) (a .s .now) (rowsOf (a .rows .now)) _ _ (start .pre .0 .0) (a .samples) (start .pre .1 .0) (start .pre .1 .1) (start .pre .0 .2) (c .before .before .begin-listing .ensures) refl, omega arith, refl)
 
 add-loop : tie.Need-add-loop Inv-loop μ-loop
 add-loop c = search needs
@@ -37,28 +37,28 @@ mul-count c = search needs
 shared-slice-read-count : tie.Need-shared-slice-read-count Inv-loop μ-loop
 shared-slice-read-count c = search needs
 
-add-t15 : tie.Need-add-t15 Inv-loop μ-loop
-add-t15 c = search needs
+add-t16 : tie.Need-add-t16 Inv-loop μ-loop
+add-t16 c = search needs
 
-mul-t14 : tie.Need-mul-t14 Inv-loop μ-loop
-mul-t14 c = search needs
+mul-t15 : tie.Need-mul-t15 Inv-loop μ-loop
+mul-t15 c = search needs
 
-shared-slice-read-t18 : tie.Need-shared-slice-read-t18 Inv-loop μ-loop
-shared-slice-read-t18 c = search needs
+shared-slice-read-t19 : tie.Need-shared-slice-read-t19 Inv-loop μ-loop
+shared-slice-read-t19 c = search needs
 
 enter-run-requires : tie.Need-enter-run-requires Inv-loop μ-loop
 enter-run-requires c κs =
-    let at-loop = c .before .before .before .before .before in
+    let at-loop = c .before .before .before .before .before .before in
     let begun = at-loop .before .before .before .begin-listing in
     let start = at-loop .before .before .before .before .before .before .before .before in
     let a = start .args in
     let rows = a .rows .now in
     let i = at-loop .loop .i in
-    let first = rows-first rows i (c .before .before .before .before .loop-test .taken) in
+    let first = rows-first rows i (c .before .before .before .before .before .loop-test .taken) in
     let x = rw first at (at-loop .loop .inv .0) in
     let near = begun-ends (a .grouping-type) (a .s .now) (rowsOf rows) (a .samples) (start .pre .1 .0) (begun .ensures) in (
-      (start .pre .0 .0, start .pre .0 .1, row-means (a .grouping-type) (a .s .now) (rowsOf rows) _ _ _ _ _ _ x (c .before .if1 .taken)),
-      (x .held, c .before .if1 .taken, row-fits (a .grouping-type) (a .s .now) (rowsOf rows) _ _ _ _ _ _ x, omega (arith, x .ends, near, start .pre .1 .2)),
+      (start .pre .0 .0, start .pre .0 .1, row-means (a .grouping-type) (a .s .now) (rowsOf rows) _ _ _ _ _ _ x (c .before .before .if1 .taken)),
+      (x .held, x .alike, c .before .before .if1 .taken, row-fits (a .grouping-type) (a .s .now) (rowsOf rows) _ _ _ _ _ _ x, omega (arith, x .ends, near, start .pre .1 .2)),
     )
 
 add-i : tie.Need-add-i Inv-loop μ-loop
@@ -79,8 +79,8 @@ loop-again c =
     let x = rw first at (at-loop .loop .inv .0) in
     let within : i + 2 ≤ length rows = omega (arith, c .before .before .before .loop-test .taken) in
     ⊎-elim
-    (λ w. (rw (w .5, w .6) (writing-next (a .grouping-type) (a .s .now) (rowsOf rows) _ _ _ _ _ _ x (w .2 .ensures)), within, rw (w .5) (w .2 .kept .1 .1 .1 .1 .0 ∙ at-loop .loop .inv .2)))
-    (λ w. (rw (w .1, w .2) (writing-none (a .grouping-type) (a .s .now) (rowsOf rows) _ _ _ _ _ _ x (omega (arith, w .0))), within, rw (w .1) (at-loop .loop .inv .2)))
+    (λ w. (rw (w .6, w .7, w .8) (writing-next (a .grouping-type) (a .s .now) (rowsOf rows) _ _ _ _ _ _ x (w .3 .ensures .0) (w .3 .ensures .1)), within, rw (w .6) (w .3 .kept .1 .1 .1 .1 .1 .0 ∙ at-loop .loop .inv .2)))
+    (λ w. (rw (w .1, w .2, w .3) (writing-none (a .grouping-type) (a .s .now) (rowsOf rows) _ _ _ _ _ _ x (omega (arith, w .0))), within, rw (w .1) (at-loop .loop .inv .2)))
     (c .if1 .came)
 
 close-stretch-requires : tie.Need-close-stretch-requires Inv-loop μ-loop
@@ -124,9 +124,9 @@ write-listing-spec =
     add-loop
     mul-count
     shared-slice-read-count
-    add-t15
-    mul-t14
-    shared-slice-read-t18
+    add-t16
+    mul-t15
+    shared-slice-read-t19
     enter-run-requires
     add-i
     loop-less
