@@ -148,11 +148,14 @@ pub fn layout_of(grouping_type: u32) -> EntryLayout
 fn check_length(payload: &[u8], least: usize) -> LengthCheck
     ensures { λ r. ⌜ GivesLength (now (payload .entry)) least r ⌝ }
 {
-    if INPUT_LIMIT < payload.len() {
+    let n = payload.len();
+    if least <= n {
+        if n <= INPUT_LIMIT {
+            return LengthCheck::Enough;
+        }
+    }
+    if INPUT_LIMIT < n {
         return LengthCheck::Refused(55);
     }
-    if payload.len() < least {
-        return LengthCheck::Refused(40);
-    }
-    LengthCheck::Enough
+    LengthCheck::Refused(40)
 }

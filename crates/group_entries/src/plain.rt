@@ -37,11 +37,14 @@ pub fn decode_roll(payload: &[u8]) -> DecodedRoll
     })
 }
 
-// A prol has the layout of a roll.
+// A prol has the layout of a roll. The answer is taken apart, as the compiler makes less of one that is handed on whole.
 pub fn decode_prol(payload: &[u8]) -> DecodedRoll
     ensures { λ r. ⌜ toldRoll r ≡ within (now (payload .entry)) (decodeRoll (now (payload .entry))) ⌝ }
 {
-    decode_roll(payload)
+    match decode_roll(payload) {
+        DecodedRoll::Roll(roll) => DecodedRoll::Roll(roll),
+        DecodedRoll::Refused(n) => DecodedRoll::Refused(n),
+    }
 }
 
 pub fn decode_rap(payload: &[u8]) -> DecodedRap
