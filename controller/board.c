@@ -416,7 +416,31 @@ static void measured(void) {
     end = put(put(word(put(end + 8, 0x01000000, 4), "roll"), 0, 4), 3, 4);
     end = put(put(put(put(put(put(end, 2, 4), 0xfffe, 2), 2, 4), 3, 2), 2, 4), 0xfffe, 2);
     word(put(groups, (uint64_t)(end - groups), 4), "sgpd");
-    MEASURE("cue_listing, 1,000,000 samples", 1, film_cue_listing(input, (film_size)(end - input), 0x726f6c6c, rows, 4096, listing, sizeof listing, out));
+    film_size body = (film_size)(end - input);
+    MEASURE("cue_listing, 1,000,000 samples", 1, film_cue_listing(input, body, 0x726f6c6c, rows, 4096, listing, sizeof listing, out));
+    MEASURE("roll_start, the last frame of the same", 1, film_roll_start(input, body, 999999, out));
+
+    /* the same body in a film, within five containers */
+    static const char path[] = "moovtrakmdiaminfstbl";
+    for (film_size k = body; k > 0; k--) input[k + 39] = input[k - 1];
+    for (unsigned k = 0; k < 5; k++) word(put(input + 8 * k, body + 8 * (5 - k), 4), path + 4 * k);
+    MEASURE("find_stbl, the same in a film", 100, film_find_stbl(input, body + 40, 0, out));
+    MEASURE("file_cue_listing, the same in a film", 1, film_file_cue_listing(input, body + 40, 0, 0x726f6c6c, rows, 4096, listing, sizeof listing, out));
+
+    /* the costliest body that is known, `empty-far` of bench/src/listing.rs: 3,721 empty entries with lengths of their own, two of each sixteenth looked up in turn by 2,048 rows */
+    const unsigned entries = 3721, apart = 233, turns = 683;
+    end = put(put(put(word(put(input + 8, 2 | 3 << 2 | 3 << 4, 4), "abcd"), 1, 4), turns, 4), 2048, 4);
+    for (unsigned k = 0; k < turns; k++) {
+        unsigned far = (k % 16 + 1) * apart - k / 16 % 2, most = entries - k % 2;
+        end = put(end, far < most ? far : most, 2);
+    }
+    word(put(input, (uint64_t)(end - input), 4), "csgp");
+    groups = end;
+    end = put(put(word(put(end + 8, 0x01000000, 4), "abcd"), 0, 4), entries, 4);
+    for (unsigned k = 0; k < entries; k++) end = put(end, 0, 4);
+    word(put(groups, (uint64_t)(end - groups), 4), "sgpd");
+    MEASURE("cue_listing, empty-far", 1, film_cue_listing(input, (film_size)(end - input), 0x61626364, rows, 4096, listing, sizeof listing, out));
+    if (out[0] != 10 || out[1] != 2048) text("WRONG\n");
 }
 
 void reset(void) {
