@@ -7,6 +7,7 @@ use native.Mathlib.Decide.{decLt}
 use native.Mathlib.Omega.{arith}
 use lib.ListN.{length, getD, replicate, length-append, set, length-set}
 use lib.Seq.{getD-set-same, getD-set-other}
+use borrow.Author.Tests.{lt-ltb}
 use Rattle.base_fields.specs.Answer.{Answer, given, none, refused}
 use Rattle.base_fields.proofs.Answers.{given-inj}
 use Rattle.group_sgpd.specs.Head.{ReadWhole}
@@ -24,7 +25,7 @@ use Rattle.listing_meanings.specs.declared.MeaningAt.the-variants as at
 use Rattle.listing_meanings.proofs.Found.{meaning-is, entries-are}
 use Rattle.listing_stretches.specs.Ahead.{bytesAhead, meaningOr, endAfter, Enters}
 use Rattle.listing_stretches.specs.Entered.{InHand, meaningBy, GivesEntered, GivesBegun, GivesClosed, PutsStretch, stretchLimit, joinedBy, begunWith}
-use Rattle.listing_stretches.specs.Memory.{Remembered}
+use Rattle.listing_stretches.specs.Memory.{Remembered, Keeps, keptNext}
 use Rattle.listing_stretches.specs.declared.Hand.{Hand}
 use Rattle.listing_stretches.specs.declared.Progress.{Progress}
 use Rattle.listing_stretches.proofs.Ahead.{ahead-join, ahead-first, ahead-close, ahead-last, ahead-none}
@@ -39,15 +40,22 @@ stretch-some x e =
 pub recalls-none : (m : ℕ → Meaning) (v : Meaning) (l : List ℕ) → length l ≡ 16 → Remembered m v 0 l
 recalls-none m v l places = record { places = places; means = λ k h b. absurd (omega arith) }
 
+-- an index that it keeps
+pub keeps-means : (m : ℕ → Meaning) {v : Meaning} {kept i : ℕ} {l : List ℕ} → Remembered m v kept l → Keeps kept l i → m i ≡ v
+keeps-means m all k = ap m (sym (k .3)) ∙ all .means (k .0) (k .1) (k .2)
+
+next-near : {kept : ℕ} → kept < 16 → keptNext kept ≤ kept + 1
+next-near {kept} h = simp (lt-ltb kept 31 (omega arith)) (omega arith)
+
 -- one index more, in the place of number kept, which goes round
 module _ (m : ℕ → Meaning) {v : Meaning} {kept i : ℕ} {l : List ℕ} (all : Remembered m v kept l) (e : m i ≡ v) where
   abbrev place : ℕ
   place = kept % 16
 
-  pub recalls-more : (next : ℕ) → (kept < 16 → next ≤ kept + 1) → Remembered m v next (set l place i)
-  recalls-more next near = record { places = simp length-set (all .places); means = means }
+  pub recalls-more : Remembered m v (keptNext kept) (set l place i)
+  recalls-more = record { places = simp length-set (all .places); means = means }
     where
-      means : (k : ℕ) → k < 16 → k < next → m (getD (set l place i) k 0) ≡ v
+      means : (k : ℕ) → k < 16 → k < keptNext kept → m (getD (set l place i) k 0) ≡ v
       means k h b =
           let low = mod-lt kept {m = 16} (omega arith) in
           let other : k < kept → (k ≡ place → ⊥) → m (getD (set l place i) k 0) ≡ v = λ below d. rw (getD-set-other l place k i 0 d) (all .means k h below) in
@@ -56,7 +64,7 @@ module _ (m : ℕ → Meaning) {v : Meaning} {kept i : ℕ} {l : List ℕ} (all 
             | no behind ↦
                 elim (decLt place k) [
                   | yes after ↦ other (elim (decLt kept 16) [
-                    | yes few ↦ absurd (omega (arith, near few, mod-eq-of-lt few))
+                    | yes few ↦ absurd (omega (arith, next-near few, mod-eq-of-lt few))
                     | no many ↦ omega arith
                   ]) (λ f. omega arith)
                   | no upTo ↦ let same : k ≡ place = omega arith in rw (same, getD-set-same l place i 0 (omega (arith, all .places))) e

@@ -1,17 +1,16 @@
 // Indices that are remembered with the stretch in hand, so that their entries are not compared with its own again.
 use base_ids::DescriptionIndex;
 ghost use mathlib.Core.Path.{_≡_};
-ghost use mathlib.Core.Bool.{true};
-ghost use Prim.Native.Nat.{ℕ};
-ghost use Rattle.listing_theorem.specs.Meaning.{Meaning};
-ghost use Rattle.listing_stretches.specs.Memory.{Remembered};
+ghost use Prim.Native.Nat.{_%_};
+ghost use lib.ListN.{set};
+ghost use Rattle.listing_stretches.specs.Memory.{GivesKept, keptNext};
 
 // How many indices there is room for.
 const MEMORY: u32 = 16;
 
-// Whether an index is remembered: then it means what the others mean.
+// Whether an index is remembered.
 pub fn remembers(memory: &[u32; 16], kept: u32, index: DescriptionIndex) -> bool
-    ensures { λ r. ⌜ (r ≡ true → (m : ℕ → Meaning) (v : Meaning) → Remembered m v kept (now (memory .entry)) → m (index .0) ≡ v) ⌝ }
+    ensures { λ r. ⌜ GivesKept kept (now (memory .entry)) (index .0) r ⌝ }
 {
     let mut k: u32 = 0;
     while k < MEMORY {
@@ -27,9 +26,9 @@ pub fn remembers(memory: &[u32; 16], kept: u32, index: DescriptionIndex) -> bool
     false
 }
 
-// Remembers one index more, in the oldest one's place where all are taken. Behind 16 the number that is handed back goes round, from 16 to 31, to tell that place.
+// Remembers one index more, in the oldest one's place where all are taken.
 pub fn remember(memory: &mut [u32; 16], kept: u32, index: DescriptionIndex) -> u32
-    ensures { λ r. ⌜ ((m : ℕ → Meaning) (v : Meaning) → Remembered m v kept (now (memory .entry)) → m (index .0) ≡ v → Remembered m v r (now (memory .exit))) ⌝ }
+    ensures { λ r. ⌜ (r ≡ keptNext kept) × (now (memory .exit) ≡ set (now (memory .entry)) (kept % 16) (index .0)) ⌝ }
 {
     let at = (kept % MEMORY) as usize;
     memory[at] = index.0;

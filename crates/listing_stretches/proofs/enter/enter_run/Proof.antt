@@ -1,7 +1,7 @@
 -- The five ways of `Entering`: the same index, one that is remembered, the first stretch, a like meaning, another meaning; and what the memory keeps then.
 use borrow.Author.Needs.{needs}
 use native.Mathlib.Omega.{arith}
-use Rattle.listing_stretches.proofs.Entering.{means-by, recalls-none, enter-join, enter-same, like-means, enter-first, enter-other}
+use Rattle.listing_stretches.proofs.Entering.{means-by, recalls-none, keeps-means, recalls-more, enter-join, enter-same, like-means, enter-first, enter-other}
 use Rattle.listing_stretches.proofs.enter.enter_run.Statement.{statement}
 use Rattle.listing_stretches.proofs.enter.enter_run.Tie as tie
 
@@ -26,7 +26,7 @@ returns-2 c =
     let start = c .before .before .before .before .before .before .before .before .before .before in
     let a = start .args in
     let held = start .pre .1 in
-    let alike = c .before .before .remembers .ensures (c .before .if2 .taken) _ _ (held .1) in
+    let alike = keeps-means _ (held .1) (rw (c .before .if2 .taken) at (c .before .before .remembers .ensures)) in
     rw (c .joined2 .ensures) (enter-join _ _ (start .pre .0 .0) _ (a .progress) (a .count) (a .index .0) (held .2) (held .0) (start .pre .0 .2) _ alike, held .1)
 
 meaning-at-requires : tie.Need-meaning-at-requires
@@ -71,7 +71,7 @@ returns-4 c =
     let alike = like-means _ _ w (held .0) (at-meaning .meaning-at .ensures) (start .pre .0 .2) (at-like .like .ensures .same (c .before .before .before .if4 .taken)) in
     rw (c .joined3 .ensures) (
       enter-join _ _ w _ (a .progress) (a .count) (a .index .0) (held .2) (held .0) (start .pre .0 .2) _ alike,
-      c .before .remember .ensures _ _ (held .1) alike,
+      rw (c .before .remember .ensures .0, c .before .remember .ensures .1) (recalls-more _ (held .1) alike),
     )
 
 put-stretch-requires : tie.Need-put-stretch-requires

@@ -1,7 +1,7 @@
--- The law `recalls-more`, for a number that grows and for one that goes round.
+-- The number grows, or goes round.
+use mathlib.Core.Path.{refl}
 use borrow.Author.Needs.{needs}
-use native.Mathlib.Omega.{arith}
-use Rattle.listing_stretches.proofs.Entering.{recalls-more}
+use borrow.Author.Tests.{lt-ltb, le-ltb}
 use Rattle.listing_stretches.proofs.recall.remember.Statement.{statement}
 use Rattle.listing_stretches.proofs.recall.remember.Tie as tie
 
@@ -18,10 +18,10 @@ add-result : tie.Need-add-result
 add-result c = search needs
 
 returns : tie.Need-returns
-returns c m v all e = recalls-more m all e _ (λ h. omega arith)
+returns c = (simp (lt-ltb _ _ (c .if1 .taken)), refl)
 
 returns-2 : tie.Need-returns-2
-returns-2 c m v all e = recalls-more m all e 16 (λ h. omega (arith, c .if1 .left))
+returns-2 c = (simp (le-ltb _ _ (c .if1 .left)), refl)
 
 pub remember-spec : {M : Type 1} → statement M
 remember-spec = tie.close (tie.spec cast-at mul-memory element-write-memory add-result returns returns-2)
