@@ -171,90 +171,29 @@ extern const char film_listings[], film_listings_end[], starts[], starts_end[], 
 extern const char records[], records_end[], films[], films_end[], listings[], listings_end[], damaged_listing[], damaged_listing_end[];
 extern const char atoms[], atoms_end[], tables[], tables_end[], descriptions[], descriptions_end[], document[], document_end[], damaged[], damaged_end[];
 
-/* Document 01's starred cases: status, then numbers. */
-static unsigned cases, right;
+/* Document 01's starred cases, counted. */
+#include "../examples/starred_cases.h"
 
-static void starred(unsigned status, unsigned want, const uint64_t *out, unsigned n, const uint64_t *numbers) {
+static unsigned answers, right;
+
+static void starred(const char *name, uint32_t status, uint32_t want, unsigned n, const uint64_t *numbers, const uint64_t *expected) {
     unsigned good = status == want;
-    for (unsigned k = 0; good && want == 0 && k < n; k++) good = out[k] == numbers[k];
-    cases++;
+    for (unsigned k = 0; status == FILM_OK && k < n; k++) good = good && numbers[k] == expected[k];
+    if (!good) {
+        text(name);
+        text(": WRONG\n");
+    }
+    answers++;
     right += good;
 }
 
-#define CASE(call, want, n, ...) \
-    do { \
-        uint64_t out[8] = {0}; \
-        const uint64_t numbers[] = {__VA_ARGS__}; \
-        uint32_t status = call; \
-        starred(status, want, out, n, numbers); \
-    } while (0)
-#define BYTES(...) ((const uint8_t[]){__VA_ARGS__}), sizeof((const uint8_t[]){__VA_ARGS__})
-#define FREE 'f', 'r', 'e', 'e'
-#define RAP 0, 0, 0, 0, 'r', 'a', 'p', ' '
-#define SBGP BYTES(RAP, 0, 0, 0, 3, 0, 0, 0, 3, 0, 0, 0, 1, 0, 0, 0, 0, 0, 0, 0, 9, 0, 0, 0, 2, 0, 0, 0, 1)
-#define SHARED(n) 0, 0, 0, 0, 'a', 'b', 'c', 'd', 0, 0, 0, n
-
-static void rows_are(unsigned n, const uint32_t *want) {
-    unsigned good = 1;
-    for (unsigned k = 0; k < 2 * n; k++) good &= rows[k] == want[k];
-    cases++;
-    right += good;
-}
-
-static void all_starred(void) {
-    CASE(film_read_atom_header((const uint8_t *)"", 0, 0, out), FILM_NONE, 0, 0);
-    CASE(film_read_atom_header(BYTES(0, 0, 0, 7, FREE), 0, out), FILM_SMALL_SIZE, 0, 0);
-    CASE(film_read_atom_header(BYTES(0, 0, 0, 8, FREE), 0, out), 0, 5, 0x66726565, 0, 8, 8, 8);
-    CASE(film_read_payload(BYTES(0, 0, 0, 8, FREE), 0, out), 0, 2, 8, 0);
-    CASE(film_read_atom_header(BYTES(0, 0, 0, 1, FREE, 0, 0, 0, 0, 0, 0, 0, 15), 0, out), FILM_SMALL_EXTENDED_SIZE, 0, 0);
-    CASE(film_read_atom_header(BYTES(0, 0, 0, 1, FREE, 0, 0, 0, 0, 0, 0, 0, 16), 0, out), 0, 5, 0x66726565, 0, 16, 16, 16);
-    CASE(film_read_atom_header(BYTES(0, 0, 0, 1, FREE, 255, 255, 255, 255, 255, 255, 255, 255), 0, out), 0, 5, 0x66726565, 0, UINT64_MAX, 16, 16);
-    CASE(film_read_atom_header(BYTES(0, 0, 0, 8, FREE, 0, 0, 0, 1, FREE, 255, 255, 255, 255, 255, 255, 255, 255), 8, out), FILM_FAR_END, 0, 0);
-
-    CASE(film_parse_sbgp(SBGP, rows, 6, out), 0, 3, 0x72617020, 0, 3);
-    rows_are(3, (const uint32_t[]){3, 1, 0, 9, 2, 1});
-    CASE(film_group_index_for_sample(rows, 6, 4, out), 0, 1, 1);
-    CASE(film_group_index_for_sample(rows, 6, 5, out), 0, 1, 0);
-    CASE(film_covered_samples(rows, 6, out), 0, 1, 5);
-    CASE(film_parse_sbgp(SBGP, rows, 4, out), FILM_NO_RECORD_LEFT, 0, 0);
-    CASE(film_parse_csgp(BYTES(RAP, 0, 0, 0, 1, 0x37, 0x12, 0x20), rows, 10, out), 0, 3, 0x72617020, 0, 5);
-    rows_are(5, (const uint32_t[]){1, 1, 2, 2, 1, 1, 2, 2, 1, 1});
-    CASE(film_parse_csgp(BYTES(RAP, 0, 0, 0, 1, 0x37, 0x12, 0x20), rows, 8, out), FILM_NO_RECORD_LEFT, 0, 0);
-    CASE(film_parse_csgp(BYTES(RAP, 0, 0, 0, 2, 0x12, 0x23, 0x55, 0x60), rows, 6, out), 0, 3, 0x72617020, 0, 3);
-    rows_are(3, (const uint32_t[]){3, 5, 1, 6, 1, 5});
-    CASE(film_parse_csgp(BYTES(RAP, 0, 0, 0, 2, 0x10, 0x11, 0x78), rows, 2, out), 0, 3, 0x72617020, 0, 1);
-    rows_are(1, (const uint32_t[]){1, 8});
-    CASE(film_parse_csgp(BYTES(RAP, 0, 0, 0, 2, 0x01), rows, 2, out), FILM_PATTERN_LENGTH_CUT, 0, 0);
-    CASE(film_parse_csgp(BYTES(RAP, 0, 0, 0, 2, 0x01, 0x11), rows, 2, out), FILM_PATTERN_LENGTH_ZERO, 0, 0);
-
-    CASE(film_entry_place(BYTES(SHARED(3), 0, 0, 0, 0, 0, 0, 0, 0, 0), 1, out), 0, 2, 12, 3);
-    CASE(film_entry_place(BYTES(SHARED(3), 0, 0, 0, 0, 0, 0, 0, 0, 0), 2, out), 0, 2, 15, 2);
-    CASE(film_entry_place(BYTES(SHARED(3), 0, 0, 0, 0, 0, 0, 0, 0, 0), 3, out), 0, 2, 17, 1);
-    CASE(film_entry_place(BYTES(SHARED(2), 0, 0, 0), 1, out), 0, 2, 12, 1);
-    CASE(film_entry_place(BYTES(SHARED(2), 0, 0, 0), 2, out), 0, 2, 13, 1);
-    CASE(film_parse_sgpd(BYTES(SHARED(2), 0, 0), out), FILM_ZERO_SHARE, 0, 0);
-    CASE(film_decode_roll(BYTES(0xff, 0xfe), (int64_t *)out), 0, 1, (uint64_t)-2);
-    CASE(film_decode_roll(BYTES(0x80, 0x00), (int64_t *)out), 0, 1, (uint64_t)-32768);
-    CASE(film_decode_rash(BYTES(0, 1, 0, 7, 0, 0, 0, 8, 0, 0, 0, 9, 5), out), 0, 4, 1, 8, 9, 5);
-    CASE(film_decode_rash(BYTES(0, 1, 0, 7, 0, 0, 0, 8, 0, 0, 0, 9), out), FILM_TRAILER_CUT, 0, 0);
-    CASE(film_decode_alst(BYTES(0, 0, 0, 6), out), 0, 3, 0, 6, 0);
-    CASE(film_decode_alst(BYTES(0, 0, 0, 6, 1), out), FILM_PIECES_CUT, 0, 0);
-
-    /* the listing of crates/cue: roll, 3 samples; 2 of distance -2, 1 of no group */
-    static const uint8_t want[] = {'r', 'o', 'l', 'l', 3, 2, 2, 0xfe, 0xff, 1, 1, 0};
-    CASE(film_cue_listing(BYTES(0, 0, 0, 36, 's', 'b', 'g', 'p', 0, 0, 0, 0, 'r', 'o', 'l', 'l', 0, 0, 0, 2, 0, 0, 0, 2, 0, 0, 0, 1, 0, 0, 0, 1, 0, 0, 0, 0,
-                                0, 0, 0, 26, 's', 'g', 'p', 'd', 1, 0, 0, 0, 'r', 'o', 'l', 'l', 0, 0, 0, 2, 0, 0, 0, 1, 0xff, 0xfe),
-                          0x726f6c6c, rows, 4, listing, 12, out),
-         0, 2, 12, 2);
-    unsigned good = 1;
-    for (unsigned k = 0; k < sizeof want; k++) good &= listing[k] == want[k];
-    cases++;
-    right += good;
+static void count_starred(void) {
+    all_starred();
     text("starred cases: ");
-    number(cases);
+    number(answers);
     text(" answers, ");
     number(right);
-    text(right == cases ? " right\n" : " right  WRONG\n");
+    text(right == answers ? " right\n" : " right  WRONG\n");
 }
 
 /* Counting: the timer runs down, 40 instructions to a tick. The stack below this frame is painted, and the deepest byte that changed is found. */
@@ -458,7 +397,7 @@ void reset(void) {
     replay("descriptions", descriptions, descriptions_end, 1);
     replay("records", records, records_end, 1);
     replay("damaged", damaged, damaged_end, 0);
-    all_starred();
+    count_starred();
     measured();
     host(0x18, (const void *)0x20026);
     for (;;) {

@@ -50,12 +50,23 @@ fn refusal(film: &[u8], fragment: &[u8], raw: u32) -> u32 {
     }
 }
 
+// [1,2,2] over 7 samples, document 01's starred case: its last row is (1,1).
+fn wraps() -> bool {
+    let mut rows = [7u32; 10];
+    table_csgp::parse_csgp(
+        b"\x00\x00\x00\x00rap \x00\x00\x00\x01\x37\x12\x20",
+        &mut rows,
+    );
+    rows[8] == 1 && rows[9] == 1
+}
+
 fn runs() {
     let sbgp =
         b"\x00\x00\x00\x00rap \x00\x00\x00\x02\x00\x00\x00\x03\x00\x00\x00\x01\x00\x00\x00\x02\x00\x00\x00\x09";
     tell(b"run of an sbgp", first_run_is(sbgp, TableKind::Sbgp, 3, 1));
     let csgp = b"\x00\x00\x00\x00rap \x00\x00\x00\x02\x12\x23\x55\x60";
     tell(b"run of a csgp", first_run_is(csgp, TableKind::Csgp, 2, 5));
+    tell(b"a csgp behind its wrap", wraps());
 }
 
 fn parts(film: &[u8]) {

@@ -1,5 +1,5 @@
 // The starred cases of document 01, and those beside them in its table, as calls of the entries on literal bytes: crates/test_starred has
-// the table over the definitions, and the contracts here say what the code answers. crates/test_starred_print makes the calls and prints the answers.
+// the table over the definitions, and the contracts here say what the code answers. examples/starred.c makes the same calls through the C functions.
 pub mod descriptions;
 pub mod headers;
 pub mod listing;
