@@ -2,6 +2,7 @@
 
 use super::MIB;
 use super::ffi::{self, Answer, Input};
+use super::messages;
 use super::random::Random;
 use super::tally::Tally;
 use super::vectors::Vectors;
@@ -17,18 +18,20 @@ pub fn number(error: &Error, eof: u32) -> u32 {
             _ => panic!("an error of another kind: {error}"),
         };
     };
-    let known = [
-        ("truncated atom header", 1),
-        ("atom size below 8-byte", 3),
-        ("extended atom size below 16-byte", 4),
-        ("overflows u64", 5),
-        ("child atom extends beyond parent", 6),
-        ("open-ended atom inside container", 7),
-        ("cannot read open-ended atom body", 8),
-        ("refusing in-memory read", 9),
-        ("-byte envelope", 10),
-    ];
-    known.iter().find(|(part, _)| text.contains(part)).unwrap_or_else(|| panic!("an unknown message: {text}")).1
+    messages::number(
+        text,
+        &[
+            ("truncated atom header", 1),
+            ("atom size below 8-byte", 3),
+            ("extended atom size below 16-byte", 4),
+            ("overflows u64", 5),
+            ("child atom extends beyond parent", 6),
+            ("open-ended atom inside container", 7),
+            ("cannot read open-ended atom body", 8),
+            ("refusing in-memory read", 9),
+            ("-byte envelope", 10),
+        ],
+    )
 }
 
 fn numbers(h: &AtomHeader) -> [u64; 5] {

@@ -2,6 +2,7 @@
 
 use super::MIB;
 use super::ffi::{self, Answer, Input};
+use super::messages;
 use super::random::Random;
 use super::sgpd::{TYPES, records_of};
 use super::tally::Tally;
@@ -11,16 +12,18 @@ use crate::standalone::{Error, Result};
 
 pub fn number(error: &Error) -> u32 {
     let Error::InvalidData(text) = error else { panic!("an error of another kind: {error}") };
-    let known = [
-        ("entry < ", 40),
-        ("operation_point_count must be non-zero", 41),
-        ("truncated single share", 42),
-        ("truncated operation point", 42),
-        ("truncated bitrate / discard trailer", 43),
-        ("truncated sample_offset table", 44),
-        ("not a multiple of 4 bytes", 45),
-    ];
-    known.iter().find(|(part, _)| text.contains(part)).unwrap_or_else(|| panic!("an unknown message: {text}")).1
+    messages::number(
+        text,
+        &[
+            ("entry < ", 40),
+            ("operation_point_count must be non-zero", 41),
+            ("truncated single share", 42),
+            ("truncated operation point", 42),
+            ("truncated bitrate / discard trailer", 43),
+            ("truncated sample_offset table", 44),
+            ("not a multiple of 4 bytes", 45),
+        ],
+    )
 }
 
 fn told<T, U>(read: &Result<T>, f: impl FnOnce(&T) -> U) -> Answer<U> {

@@ -8,6 +8,7 @@ mod ffi;
 mod film;
 mod limits;
 mod listing;
+mod messages;
 mod random;
 mod sbgp;
 mod sgpd;

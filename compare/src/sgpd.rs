@@ -2,6 +2,7 @@
 
 use super::MIB;
 use super::ffi::{self, Answer, Input};
+use super::messages;
 use super::random::Random;
 use super::tally::Tally;
 use super::vectors::Vectors;
@@ -13,15 +14,17 @@ const VERSIONS: [u8; 5] = [0, 1, 2, 3, 255];
 
 pub fn number(error: &Error) -> u32 {
     let Error::InvalidData(text) = error else { panic!("an error of another kind: {error}") };
-    let known = [
-        ("header < 12 bytes", 30),
-        ("missing default_sample_description_index", 31),
-        ("missing entry_count", 32),
-        ("missing description_length", 33),
-        ("zero-size implicit entries", 34),
-        ("truncated entry payload", 35),
-    ];
-    known.iter().find(|(part, _)| text.contains(part)).unwrap_or_else(|| panic!("an unknown message: {text}")).1
+    messages::number(
+        text,
+        &[
+            ("header < 12 bytes", 30),
+            ("missing default_sample_description_index", 31),
+            ("missing entry_count", 32),
+            ("missing description_length", 33),
+            ("zero-size implicit entries", 34),
+            ("truncated entry payload", 35),
+        ],
+    )
 }
 
 fn theirs(told: &Result<SampleGroupDescription>) -> Answer<[u64; 5]> {

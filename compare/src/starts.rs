@@ -9,6 +9,8 @@ use super::tally::Tally;
 use super::vectors::Vectors;
 use super::{csgp, film, sbgp, sgpd, writing};
 use crate::sample_groups as rust;
+use std::borrow::Cow;
+use std::cell::OnceCell;
 use std::collections::BTreeMap;
 
 /// A table by its patterns: sample counts and indices. A row is a pattern of one index.
@@ -39,14 +41,18 @@ fn row_over(patterns: &Patterns) -> bool {
     false
 }
 
+/// The distance of a sample that is a member, or its decoder's refusal.
+type Distance = Result<Option<i64>, u32>;
+
 /// What is read of a body: the patterns, whether the Rust's own table has them, and the descriptions. Tables of up to `samples` samples are searched from the first to
-/// the last.
+/// the last; the distance of each of theirs is asked for once.
 struct Read {
     patterns: Patterns,
     table: Option<rust::SampleToGroup>,
     entries: rust::SampleGroupDescription,
     covered: u64,
     samples: u64,
+    each: OnceCell<Vec<Distance>>,
 }
 
 fn read(s: &[u8], kind: &[u8; 4]) -> Result<Read, u32> {
@@ -64,7 +70,7 @@ fn read(s: &[u8], kind: &[u8; 4]) -> Result<Read, u32> {
     };
     let entries = rust::parse_sgpd(&sources.sgpd).map_err(|e| sgpd::number(&e))?;
     let covered = patterns.iter().map(|(n, _)| *n as u64).sum();
-    Ok(Read { patterns, table, entries, covered, samples: SAMPLES })
+    Ok(Read { patterns, table, entries, covered, samples: SAMPLES, each: OnceCell::new() })
 }
 
 /// Tables of so many samples are searched from the first sample to the last, and those that are stored of so many; of longer ones the samples up to the frame, or the
@@ -74,22 +80,19 @@ const STORED: u64 = 40_000;
 const WINDOW: u64 = 500;
 
 impl Read {
-    fn index(&self, k: u64) -> u32 {
-        if let (Some(table), true) = (&self.table, self.covered <= self.samples) {
-            return table.group_index_for_sample(k as u32);
-        }
-        let mut k = k;
-        for (n, indices) in &self.patterns {
-            if k < *n as u64 {
-                return indices[(k % indices.len() as u64) as usize];
-            }
-            k -= *n as u64;
-        }
-        0
+    /// The indices of the samples from one on, pattern by pattern.
+    fn indices(&self, first: u64) -> impl Iterator<Item = u32> {
+        let mut passed = 0;
+        self.patterns.iter().flat_map(move |(n, indices)| {
+            let n = *n as u64;
+            let begin = first.saturating_sub(passed).min(n);
+            passed += n;
+            (begin..n).map(move |k| indices[(k % indices.len() as u64) as usize])
+        })
     }
 
     /// The distance of a member.
-    fn distance(&self, kind: &[u8; 4], index: u32) -> Result<Option<i64>, u32> {
+    fn distance(&self, kind: &[u8; 4], index: u32) -> Distance {
         let Some(entry) = self.entries.entry(index) else { return Ok(None) };
         Ok(match listing::decoded(kind, &entry.payload)? {
             Meaning::Roll(v) => Some(v.roll_distance as i64),
@@ -98,37 +101,50 @@ impl Read {
         })
     }
 
-    /// The indices that samples up to the frame use, in the order of their first use.
-    fn used(&self, frame: u64) -> Vec<u32> {
-        if self.covered <= self.samples {
-            return (0..=frame).map(|k| self.index(k)).collect();
+    /// The distances of samples: of all, or, where there are too many, of the last ones up to the frame; and the first of these samples.
+    fn distances(&self, kind: &[u8; 4], frame: u64) -> (u64, Cow<'_, [Distance]>) {
+        let of = |index: u32| self.distance(kind, index);
+        let (first, distances): (u64, Cow<[Distance]>) = if self.covered <= self.samples {
+            (0, Cow::Borrowed(self.each.get_or_init(|| self.indices(0).map(of).collect())))
+        } else {
+            let first = (frame + 1).saturating_sub(WINDOW);
+            (first, Cow::Owned(self.indices(first).take((frame + 1 - first) as usize).map(of).collect()))
+        };
+        if let Some(table) = &self.table {
+            assert_eq!(distances[(frame - first) as usize], of(table.group_index_for_sample(frame as u32)), "the rows and the Rust's lookup of sample {frame}");
         }
-        let (mut used, mut left) = (Vec::new(), frame + 1);
+        (first, distances)
+    }
+
+    /// The refusal of the first sample up to the frame whose entry does not decode.
+    fn refusal(&self, kind: &[u8; 4], frame: u64, first: u64, distances: &[Distance]) -> Option<u32> {
+        if first == 0 {
+            return distances[..=frame as usize].iter().find_map(|d| d.err());
+        }
+        let mut left = frame + 1;
         for (n, indices) in &self.patterns {
             let n = left.min(*n as u64);
-            used.extend(indices.iter().take(n as usize));
+            if let Some(refusal) = indices.iter().take(n as usize).find_map(|i| self.distance(kind, *i).err()) {
+                return Some(refusal);
+            }
             left -= n;
         }
-        used
+        None
     }
 
     /// The answer; none of a film that is too long to be searched.
     fn start(&self, kind: &[u8; 4], frame: u64) -> Option<Answer<u32>> {
-        let covered = self.covered;
-        if covered <= frame {
+        if self.covered <= frame {
             return Some(Answer::Refused(62));
         }
-        for index in self.used(frame) {
-            if let Err(n) = self.distance(kind, index) {
-                return Some(Answer::Refused(n));
-            }
+        let (first, distances) = self.distances(kind, frame);
+        if let Some(n) = self.refusal(kind, frame, first, &distances) {
+            return Some(Answer::Refused(n));
         }
-        let samples = if covered <= self.samples { 0..covered } else { (frame + 1).saturating_sub(WINDOW)..frame + 1 };
-        let first = samples.start;
         let mut best = None;
-        for k in samples {
-            let Ok(Some(d)) = self.distance(kind, self.index(k)) else { continue };
-            let (begin, clean) = if d >= 0 { (k as i64, k as i64 + d) } else { (k as i64 + d, k as i64) };
+        for (k, distance) in (first as i64..).zip(distances.iter()) {
+            let Ok(Some(d)) = *distance else { continue };
+            let (begin, clean) = if d >= 0 { (k, k + d) } else { (k + d, k) };
             if begin >= 0 && clean <= frame as i64 {
                 best = best.max(Some(begin));
             }

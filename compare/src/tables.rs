@@ -1,6 +1,7 @@
 //! What the two sample tables share: the Rust's answer, lookups over the rows, and refusals for want of records.
 
 use super::ffi::{self, Answer, Input, Table};
+use super::messages;
 use super::random::Random;
 use super::tally::Tally;
 use super::vectors::Vectors;
@@ -10,18 +11,20 @@ use crate::standalone::{Error, Result};
 /// The number of an error: document 01's, by the Rust's message.
 pub fn number(error: &Error) -> u32 {
     let Error::InvalidData(text) = error else { panic!("an error of another kind: {error}") };
-    let known = [
-        ("header < 8 bytes", 20),
-        ("missing grouping_type_parameter", 21),
-        ("missing entry_count", 22),
-        ("missing pattern_count", 22),
-        ("truncated entries", 23),
-        ("truncated pattern_length", 24),
-        ("truncated sample_count", 25),
-        ("pattern_length is zero", 26),
-        ("truncated description index", 27),
-    ];
-    known.iter().find(|(part, _)| text.contains(part)).unwrap_or_else(|| panic!("an unknown message: {text}")).1
+    messages::number(
+        text,
+        &[
+            ("header < 8 bytes", 20),
+            ("missing grouping_type_parameter", 21),
+            ("missing entry_count", 22),
+            ("missing pattern_count", 22),
+            ("truncated entries", 23),
+            ("truncated pattern_length", 24),
+            ("truncated sample_count", 25),
+            ("pattern_length is zero", 26),
+            ("truncated description index", 27),
+        ],
+    )
 }
 
 pub fn theirs(told: &Result<SampleToGroup>) -> Answer<Table> {
