@@ -43,6 +43,13 @@ bit-of (suc n) s b i bytes h =
           rw (e, d) (low-bit v x (7 - (8 * b + i) % 8) (omega arith))
     ]
 
+-- one bit more, of m bits: the shift of the others, and that of the bit itself
+others-shift : (m o w : ℕ) → o + suc w ≤ m → m - o - w ≡ m - o - suc w + 1
+others-shift m o w h = omega arith
+
+bit-shift : (m o w : ℕ) → o + suc w ≤ m → m - 1 - (o + w) ≡ m - o - suc w
+bit-shift m o w h = omega arith
+
 -- the w bits from bit o of the number in n bytes
 pub bits-of : (w n : ℕ) (s : List ℕ) (b o : ℕ) → Bytes s → o + w ≤ 8 * n → bitsAt w s (8 * b + o) ≡ beAt n s b / 2 ^ (8 * n - o - w) % 2 ^ w
 unfolding bitsAt
@@ -50,8 +57,8 @@ bits-of zero n s b o bytes h = sym (mod-one _)
 bits-of (suc w) n s b o bytes h =
     let k = 8 * n - o - suc w in
     let y = beAt n s b / 2 ^ k in
-    let e : 8 * n - o - w ≡ k + 1 = omega arith in
-    let f : 8 * n - 1 - (o + w) ≡ k = omega arith in
+    let e : 8 * n - o - w ≡ k + 1 = others-shift (8 * n) o w h in
+    let f : 8 * n - 1 - (o + w) ≡ k = bit-shift (8 * n) o w h in
     let i : bitsAt w s (8 * b + o) ≡ y / 2 ^ 1 % 2 ^ w =
     bits-of w n s b o bytes (omega arith) ∙ rw e (rw (← shr-shr (beAt n s b) k 1) refl) in
     let j : bitAt s (8 * b + o + w) ≡ y % 2 = rw (add-assoc (8 * b) o w) (sym (bit-of n s b (o + w) bytes (omega arith)) ∙ rw f refl) in

@@ -141,7 +141,10 @@ module _ (e : List ℕ) where
       let a : suc n * m ≡ m + n * m = omega (arith, suc-mul n m) in
       let i : m + length others ≡ length (period ++ others) = sym (length-append period others) in
       let j : m + length (period ++ others) ≡ length (period ++ (period ++ others)) = sym (length-append period (period ++ others)) in
-      rw (a, copied-add m (n * m), i, j) (copy-periods n period (period ++ others) _ (copy-period period others l p (omega arith)) (omega arith))
+      let one = copied m (length others) (length (period ++ others)) l in
+      let rest : copied (suc n * m) (length others) (length (period ++ others)) l ≡ copied (n * m) (length (period ++ others)) (length (period ++ (period ++ others))) one =
+      rw (a, copied-add m (n * m), i, j) refl in
+      rw rest (copy-periods n period (period ++ others) one (copy-period period others l p (omega arith)) (omega arith))
 
   stacked-none : (n : ℕ) (period low : List Row) → n ≡ 0 → stacked n period low ≡ low
   unfolding stacked

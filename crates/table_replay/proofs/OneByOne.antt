@@ -1,6 +1,8 @@
 -- Samples entered one by one.
 use mathlib.Core.Path.{_≡_, refl, _∙_}
 use Prim.Native.Nat.{ℕ, _+_, _-_, _*_, _%_, _≤_, _<_}
+use native.Mathlib.Nat.{mul-suc}
+use native.Mathlib.Numerals.{add-one}
 use native.Mathlib.Omega.{arith}
 use mathlib.Core.List.{List}
 use Rattle.base_fields.specs.Answer.{given}
@@ -18,6 +20,24 @@ use Rattle.table_replay.specs.declared.step.ReplayState.{ReplayState}
 use Rattle.table_replay.proofs.Copying.{copied-end}
 use Rattle.table_replay.proofs.Stepping.{single-goes}
 use Rattle.table_replay.proofs.Within.{within-step, filling-step}
+
+-- the next sample: plain numbers, so that `omega` reads no more than these
+pub next-onward : (first k : ℕ) → first ≤ k → first ≤ k + 1
+next-onward first k h = omega arith
+
+pub next-below : (k last : ℕ) → k < last → k + 1 ≤ last
+next-below k last h = omega arith
+
+pub next-less : (k last : ℕ) → k < last → last - (k + 1) < last - k
+next-less k last h = omega arith
+
+-- the place of its index
+pub next-place : (p : PatternAt) (first k at : ℕ) → first ≤ k → at ≡ p .indices + p .width * (first % p .length + (k - first)) →
+    at + p .width ≡ p .indices + p .width * (first % p .length + (k + 1 - first))
+next-place p first k at h e =
+    let turn = first % p .length + (k - first) in
+    let more : first % p .length + (k + 1 - first) ≡ turn + 1 = omega arith in
+    rw more (omega (arith, mul-suc (p .width) turn, add-one turn))
 
 -- a sample's index stands at its turn in the period
 pub turn-index : (s : List ℕ) (p : PatternAt) (first k at : ℕ) → 0 < p .length → first ≤ k → first % p .length + (k - first) < p .length →

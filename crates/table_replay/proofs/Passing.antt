@@ -67,6 +67,16 @@ module _ (p : Pattern) (room k : ℕ) where
 row-same : {x r : Row} → x .count ≡ r .count → x .index ≡ r .index → x ≡ r
 row-same c i = λ j. record { count = c j; index = i j }
 
+last-same : {x y : Row} {xs ys : List Row} → x ∷ xs ≡ y ∷ ys → x ≡ y
+last-same e = cc
+
+below-same : {x y : Row} {xs ys : List Row} → x ∷ xs ≡ y ∷ ys → xs ≡ ys
+below-same e = cc
+
+-- the rows that a period leaves, counted
+more-rows : (more others : List Row) {below : List Row} {rows before : ℕ} → below ≡ more ++ others → rows ≡ suc (length below) → before ≡ suc (length others) → length more ≡ rows - before
+more-rows more others parts e g = omega (arith, ap length parts, length-append more others)
+
 onto-same : (xs : List ℕ) (more : List Row) {x r last : Row} → x ≡ r → last ≡ x → Onto r xs last more → Onto x xs x more
 onto-same xs more {x} {r} e f o = subst (λ (b : Row). Onto b xs x more) (sym e) (subst (λ (l : Row). Onto r xs l more) f o)
 
@@ -97,12 +107,10 @@ module _ (p : Pattern) (room k len count : ℕ) (t : len ≡ length (p .indices)
           let since : k - mark .sample ≡ length (p .indices) = omega (arith, a .period) in
           let z = replay-local (samplesFrom p (mark .sample) (length (p .indices))) room b bs (rw since at r) in
           let same : x ≡ b = row-same (sym (ap (λ (y : Tail). y .count) e) ∙ a .count ∙ ap (λ (y : Tail). y .count) g) (sym (ap (λ (y : Tail). y .index) e) ∙ a .index ∙ ap (λ (y : Tail). y .index) g) in
-          let zr = z .rows in
-          let last : z .last ≡ x = cc in
-          let parts : below ≡ z .more ++ bs = cc in
+          let last : z .last ≡ x = sym (last-same (z .rows)) in
+          let parts : below ≡ z .more ++ bs = below-same (z .rows) in
           let one : Onto x (samplesFrom p (mark .sample) (length (p .indices))) x (z .more) = onto-same (samplesFrom p (mark .sample) (length (p .indices))) (z .more) same last (z .onto) in
-          let size : length (z .more) ≡ tail .rows - mark .tail .rows =
-          omega (arith, ap length parts, length-append (z .more) bs, ap (λ (y : Tail). y .rows) e, ap (λ (y : Tail). y .rows) g) in
+          let size : length (z .more) ≡ tail .rows - mark .tail .rows = more-rows (z .more) bs parts (ap (λ (y : Tail). y .rows) e) (ap (λ (y : Tail). y .rows) g) in
           let from : k ≡ mark .sample + length (p .indices) = a .period ∙ rw t refl in
           let again : samplesFrom p k (n * len) ≡ samplesFrom p (mark .sample) (n * length (p .indices)) = rw (t, from) (samples-again p (mark .sample) (n * length (p .indices))) in
           record {

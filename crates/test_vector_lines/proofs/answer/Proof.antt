@@ -15,7 +15,7 @@ rest-requires : tie.Need-rest-requires
 rest-requires c κs = search needs
 
 returns : tie.Need-returns
-returns c = cc
+returns c = rw (c .before .before .input-place .ensures .0, c .before .input-size .ensures .0) at (c .rest .ensures)
 
 pub answer-spec : {M : Type 1} → statement M
 answer-spec =

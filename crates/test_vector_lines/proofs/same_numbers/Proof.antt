@@ -2,7 +2,7 @@
 use borrow.Author.Needs.{needs}
 use Prim.Native.Nat.{_-_, _*_, _/_, _≤_}
 use lib.ListN.{length, getD, drop}
-use mathlib.Core.Path.{_≡_, refl, _∙_}
+use mathlib.Core.Path.{_≡_, refl, sym, _∙_}
 use borrow.Author.Tests.{eq-eqb, ne-eqb}
 use Rattle.base_fields.specs.Number.{beAt}
 use Rattle.test_vector_lines.specs.Lines.{numbersFrom, sameNumbers}
@@ -64,7 +64,7 @@ loop-again c =
     let k = l .k in
     let b = c .before .before .before .loop-test .taken in
     let read = c .before .before .read-u64 .ensures .0 in
-    (search needs, l .inv .1 ∙ number-first s ns k b ∙ simp (eq-eqb (beAt 8 s (8 * k)) (getD ns k 0) (cc)))
+    (search needs, l .inv .1 ∙ number-first s ns k b ∙ simp (eq-eqb (beAt 8 s (8 * k)) (getD ns k 0) (sym read ∙ c .if2 .left)))
 
 returns-3 : tie.Need-returns-3 Inv-loop μ-loop
 unfolding sameNumbers

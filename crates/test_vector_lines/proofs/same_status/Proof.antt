@@ -9,7 +9,7 @@ told-status-requires : tie.Need-told-status-requires
 told-status-requires c κs = search needs
 
 returns : tie.Need-returns
-returns c = cc
+returns c = rw (c .before .answer .ensures) at (c .told-status .ensures)
 
 pub same-status-spec : {M : Type 1} → statement M
 same-status-spec = tie.close (tie.spec answer-requires told-status-requires returns)

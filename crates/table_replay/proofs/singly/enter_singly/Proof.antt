@@ -1,8 +1,7 @@
 -- The loop's invariant: the samples so far are entered (`Singly`), and `at` is the place of the next one's index.
 use mathlib.Core.Path.{_≡_, sym, ap, subst, _∙_}
 use Prim.Native.Nat.{ℕ, _+_, _-_, _*_, _%_, _≤_, _<_}
-use native.Mathlib.Nat.{mul-suc, mod-lt}
-use native.Mathlib.Numerals.{add-one}
+use native.Mathlib.Nat.{mod-lt, lt-trans}
 use native.Mathlib.Omega.{arith}
 use borrow.Author.Needs.{needs}
 use Rattle.table_patterns.specs.Place.{patternIn}
@@ -11,7 +10,7 @@ use Rattle.table_replay.specs.Enter.{GivesSingle}
 use Rattle.table_replay.specs.Within.{Singly}
 use Rattle.table_replay.specs.declared.singly.Single.{Single}
 use Rattle.table_replay.specs.declared.singly.Single.the-variants as single
-use Rattle.table_replay.proofs.OneByOne.{turn-index, singly-none, singly-on}
+use Rattle.table_replay.proofs.OneByOne.{next-onward, next-below, next-less, next-place, turn-index, singly-none, singly-on}
 use Rattle.table_replay.proofs.singly.enter_singly.Statement.{statement}
 use Rattle.table_replay.proofs.singly.enter_singly.Tie as tie
 
@@ -119,7 +118,7 @@ add-sample : tie.Need-add-sample Inv-loop μ-loop
 add-sample c = search needs
 
 loop-less : tie.Need-loop-less Inv-loop μ-loop
-loop-less c = search needs
+loop-less c = next-less _ _ (c .before .before .before .before .before .loop-test .taken)
 
 loop-again : tie.Need-loop-again Inv-loop μ-loop
 loop-again c =
@@ -130,14 +129,12 @@ loop-again c =
     let begin = start (known at-loop) in
     let a = begin .args in
     let k = at-loop .loop .sample in
-    let turn = a .state .sample % a .pattern .length + (k - a .state .sample) in
-    let n : a .state .sample % a .pattern .length + (k + 1 - a .state .sample) ≡ turn + 1 = omega (arith, i .0) in
     let entered = next-tail c in
     let index = turn-index (a .s .now) (a .pattern) (a .state .sample) k _ (begin .pre .some) (i .0) (turn-below at-loop (tested .loop-test .taken)) (i .2) ∙ sym (c .before .before .before .before .read-index .ensures .0) in (
-      omega (arith, i .0),
-      omega (arith, tested .loop-test .taken),
-      rw n (omega (arith, i .2, mul-suc (a .pattern .width) turn, add-one turn)),
-      singly-on _ _ _ _ _ (omega (arith, l .within, tested .loop-test .taken)) index (entered .enters) (i .3),
+      next-onward _ _ (i .0),
+      next-below _ _ (tested .loop-test .taken),
+      next-place (a .pattern) (a .state .sample) k _ (i .0) (i .2),
+      singly-on _ _ _ _ _ (lt-trans (tested .loop-test .taken) (l .within)) index (entered .enters) (i .3),
     )
 
 returns-4 : tie.Need-returns-4 Inv-loop μ-loop

@@ -1,8 +1,7 @@
 -- As `enter_singly`, with the rows so far in front of the run (`SinglyWritten`).
 use mathlib.Core.Path.{_≡_, refl, sym, ap, subst, _∙_}
 use Prim.Native.Nat.{ℕ, _+_, _-_, _*_, _%_, _≤_, _<_}
-use native.Mathlib.Nat.{mul-suc, mod-lt}
-use native.Mathlib.Numerals.{add-one}
+use native.Mathlib.Nat.{mod-lt, lt-trans}
 use native.Mathlib.Omega.{arith}
 use borrow.Author.Needs.{needs}
 use lib.ListN.{length}
@@ -13,7 +12,7 @@ use Rattle.table_replay.specs.Enter.{GivesSingle}
 use Rattle.table_replay.specs.Within.{SinglyWritten}
 use Rattle.table_replay.specs.declared.singly.Single.{Single}
 use Rattle.table_replay.specs.declared.singly.Single.the-variants as single
-use Rattle.table_replay.proofs.OneByOne.{turn-index, written-none, written-on}
+use Rattle.table_replay.proofs.OneByOne.{next-onward, next-below, next-less, next-place, turn-index, written-none, written-on}
 use Rattle.table_replay.proofs.singly.write_singly.Statement.{statement}
 use Rattle.table_replay.proofs.singly.write_singly.Tie as tie
 
@@ -137,7 +136,7 @@ add-sample : tie.Need-add-sample Inv-loop μ-loop
 add-sample c = search needs
 
 loop-less : tie.Need-loop-less Inv-loop μ-loop
-loop-less c = search needs
+loop-less c = next-less _ _ (c .before .before .before .before .before .before .before .before .before .before .loop-test .taken)
 
 loop-again : tie.Need-loop-again Inv-loop μ-loop
 loop-again c =
@@ -149,16 +148,14 @@ loop-again c =
     let begin = start (known (at-loop n)) in
     let a = begin .args in
     let k = at-loop n .loop .sample in
-    let turn = a .state .sample % a .pattern .length + (k - a .state .sample) in
-    let more : a .state .sample % a .pattern .length + (k + 1 - a .state .sample) ≡ turn + 1 = omega (arith, i .0) in
     let entered = next-tail n in
     let index = turn-index (a .s .now) (a .pattern) (a .state .sample) k _ (begin .pre .0 .some) (i .0) (turn-below (at-loop n) (tested .loop-test .taken)) (i .2) ∙ sym (n .before .before .before .before .read-index .ensures .0) in (
-      omega (arith, i .0),
-      omega (arith, tested .loop-test .taken),
-      rw more (omega (arith, i .2, mul-suc (a .pattern .width) turn, add-one turn)),
+      next-onward _ _ (i .0),
+      next-below _ _ (tested .loop-test .taken),
+      next-place (a .pattern) (a .state .sample) k _ (i .0) (i .2),
       entered .roomy (i .3),
       put .put-row .kept .0 ∙ i .4,
-      written-on _ _ _ _ _ (omega (arith, l .within, tested .loop-test .taken)) index (entered .enters) (i .5) (put .put-row .ensures),
+      written-on _ _ _ _ _ (lt-trans (tested .loop-test .taken) (l .within)) index (entered .enters) (i .5) (put .put-row .ensures),
     )
 
 same-length-2 : tie.Need-same-length-2 Inv-loop μ-loop
