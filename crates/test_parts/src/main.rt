@@ -1,5 +1,5 @@
 // Runs what no other program runs, and prints one line for each check: the entries of descriptions as parts of their payload, the
-// samples of a table by runs, tables read into row structs, beside the same tables in flat rows, and what a cue listing leaves as it was.
+// samples of a table by runs, tables read into row structs, beside the same tables in flat rows, what a cue listing leaves as it was, and the starred calls.
 mod listing;
 mod structs;
 
@@ -50,23 +50,12 @@ fn refusal(film: &[u8], fragment: &[u8], raw: u32) -> u32 {
     }
 }
 
-// [1,2,2] over 7 samples, document 01's starred case: its last row is (1,1).
-fn wraps() -> bool {
-    let mut rows = [7u32; 10];
-    table_csgp::parse_csgp(
-        b"\x00\x00\x00\x00rap \x00\x00\x00\x01\x37\x12\x20",
-        &mut rows,
-    );
-    rows[8] == 1 && rows[9] == 1
-}
-
 fn runs() {
     let sbgp =
         b"\x00\x00\x00\x00rap \x00\x00\x00\x02\x00\x00\x00\x03\x00\x00\x00\x01\x00\x00\x00\x02\x00\x00\x00\x09";
     tell(b"run of an sbgp", first_run_is(sbgp, TableKind::Sbgp, 3, 1));
     let csgp = b"\x00\x00\x00\x00rap \x00\x00\x00\x02\x12\x23\x55\x60";
     tell(b"run of a csgp", first_run_is(csgp, TableKind::Csgp, 2, 5));
-    tell(b"a csgp behind its wrap", wraps());
 }
 
 fn parts(film: &[u8]) {
@@ -98,6 +87,21 @@ fn refusals() {
     );
 }
 
+// Of document 01's starred calls crates/test_starred_calls says every answer. The csgp [1,2,2] over 7 samples ends behind its wrap.
+fn wraps() -> bool {
+    let csgp = test_starred_calls::tables::csgp_calls();
+    let rows = csgp.period_rows;
+    rows[8] == 1 && rows[9] == 1
+}
+
+// All of them at once; the listing has the distance -2.
+fn starred() -> bool {
+    let answers = test_starred_calls::starred();
+    let listing = answers.listing;
+    let bytes = listing.listing;
+    bytes[7] == 0xfe && bytes[8] == 0xff
+}
+
 fn main() {
     let film = b"\x00\x00\x00\x00abcd\x00\x00\x00\x03abcdefghi";
     runs();
@@ -109,4 +113,6 @@ fn main() {
     );
     structs::run();
     listing::run();
+    tell(b"starred csgp, the row behind the wrap", wraps());
+    tell(b"starred calls, the listing's distance", starred());
 }

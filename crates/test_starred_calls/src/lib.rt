@@ -1,5 +1,5 @@
 // The starred cases of document 01, and those beside them in its table, as calls of the entries on literal bytes: crates/test_starred has
-// the table over the definitions, and the contracts here say what the code answers. examples/starred.c makes the same calls through the C functions.
+// the table over the definitions, and the contracts here say what the code answers. crates/test_parts makes the calls, examples/starred.c the same ones through the C functions.
 pub mod descriptions;
 pub mod headers;
 pub mod listing;
