@@ -1,5 +1,5 @@
 //! Document 02, A3: where decoding begins for a frame. The expected answer is computed sample by sample over the Rust's own calls: the walk, the readers of the
-//! tables and of the sgpd, and the decoders; 28, 50 to 53 and 62 and the search are written here by the documents' words.
+//! tables and of the sgpd, the lookup of the wanted frame, and the decoders; 28, 50 to 53 and 62 and the search are written here by the documents' words.
 
 use super::ffi::{self, Answer, Input};
 use super::listing::{self, Meaning};
