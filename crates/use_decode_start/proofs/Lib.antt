@@ -1,4 +1,5 @@
 pub mod Entries
+pub mod Turns
 pub mod Bests
 pub mod Searching
 pub mod Counts

@@ -1,5 +1,5 @@
 -- What the inner steps answer.
-use Prim.Native.Nat.{ℕ, suc, _+_, _-_, min}
+use Prim.Native.Nat.{ℕ, zero, suc, _+_, _-_, min}
 use mathlib.Core.List.{List}
 use mathlib.Core.Option.{Option, none, some, bind}
 use lib.IntN.{ℤ, pos, negsuc}
@@ -17,8 +17,6 @@ use Rattle.use_decode_start.specs.declared.Decoded.{Decoded}
 use Rattle.use_decode_start.specs.declared.Decoded.the-variants as decoded
 use Rattle.use_decode_start.specs.declared.CheckedCounts.{CheckedCounts}
 use Rattle.use_decode_start.specs.declared.CheckedCounts.the-variants as counts
-use Rattle.use_decode_start.specs.declared.Latest.{Latest}
-use Rattle.use_decode_start.specs.declared.Latest.the-variants as latest
 use Rattle.use_decode_start.specs.declared.SearchedFor.{SearchedFor}
 use Rattle.use_decode_start.specs.declared.SearchedFor.the-variants as search
 
@@ -31,9 +29,10 @@ abbrev pub toldDecoded : Decoded → Answer (Option ℤ)
 toldDecoded (decoded.Distance d) = given (toldDistance d)
 toldDecoded (decoded.Refused n) = refused n
 
-abbrev pub toldLatest : Latest → Option ℕ
-toldLatest latest.Nothing = none
-toldLatest (latest.Sample k) = some k
+-- a sample or none, by how many samples there are up to it
+abbrev pub toldLatest : ℕ → Option ℕ
+toldLatest zero = none
+toldLatest (suc k) = some k
 
 abbrev pub toldSearch : SearchedFor → Answer (Option ℕ)
 toldSearch (search.Latest b) = given (toldLatest b)

@@ -28,9 +28,9 @@ fn signed_distance(x: u16) -> Distance
     ensures { λ r. ⌜ toldDistance r ≡ some (signed16 x) ⌝ }
 {
     if x < 32768 {
-        Distance::Ahead(x as u64)
+        Distance::Ahead(x)
     } else {
-        Distance::Behind((65535 - x) as u64)
+        Distance::Behind(65535 - x)
     }
 }
 

@@ -42,9 +42,9 @@ pub enum DecodeStart {
 enum Distance {
     Nothing,
     // 0 or more.
-    Ahead(u64),
+    Ahead(u16),
     // The size of a negative one, less 1.
-    Behind(u64),
+    Behind(u16),
 }
 
 // The distance of an index, or its decoder's refusal.
@@ -59,15 +59,9 @@ enum CheckedCounts {
     Refused(u32),
 }
 
-// A sample, or none.
-enum Latest {
-    Nothing,
-    Sample(u64),
-}
-
-// The greatest begin so far, or a decoder's refusal.
+// The greatest begin so far, as how many samples there are up to it (0: there is none), or a decoder's refusal.
 enum SearchedFor {
-    Latest(Latest),
+    Latest(u64),
     Refused(u32),
 }
 
@@ -117,10 +111,10 @@ fn start_in(
         SearchedFor::Latest(b) => b,
         SearchedFor::Refused(n) => return DecodeStart::Refused(n),
     };
-    match latest {
-        Latest::Nothing => DecodeStart::Nothing,
-        Latest::Sample(k) => DecodeStart::Sample(SampleNumber(k as u32)),
+    if latest == 0 {
+        return DecodeStart::Nothing;
     }
+    DecodeStart::Sample(SampleNumber((latest - 1) as u32))
 }
 
 // For a type with distances.

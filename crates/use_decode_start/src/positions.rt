@@ -1,8 +1,10 @@
-// The greatest begin of the samples of one position, by arithmetic.
+// The greatest begin of the samples of one position, by arithmetic. A sample or none is told by how many samples there are up to it, itself among them: 0 is none.
+// No step depends on whether there is one, so that a position costs the same whatever the counts are.
 use super::Distance;
-use super::Latest;
 ghost use mathlib.Core.Path.{_≡_};
-ghost use Prim.Native.Nat.{suc, _-_, _<_, _≤_, min};
+ghost use Prim.Native.Nat.{_-_, _<_, _≤_, min, max};
+ghost use lib.Dec.{ltb};
+ghost use Rattle.base_fields.specs.Answer.{choose};
 ghost use Rattle.table_views.specs.Search as positions;
 ghost use Rattle.use_decode_start.specs.Inner.{toldDistance, toldLatest, frameLimit, begunBefore};
 
@@ -13,81 +15,69 @@ pub fn least(a: u64, b: u64) -> u64
 }
 
 // The later of two samples.
-pub fn larger(a: Latest, b: Latest) -> Latest
-    ensures { λ r. ⌜ toldLatest r ≡ positions.larger (toldLatest a) (toldLatest b) ⌝ }
+pub fn later(a: u64, b: u64) -> u64
+    ensures { λ r. ⌜ r ≡ max a b ⌝ }
 {
-    match a {
-        Latest::Nothing => b,
-        Latest::Sample(j) => match b {
-            Latest::Nothing => Latest::Sample(j),
-            Latest::Sample(k) => {
-                if j < k {
-                    Latest::Sample(k)
-                } else {
-                    Latest::Sample(j)
-                }
-            }
-        },
-    }
+    if a < b { b } else { a }
+}
+
+// What is left of a without b, at least 0.
+fn without(a: u64, b: u64) -> u64
+    ensures { λ r. ⌜ r ≡ a - b ⌝ }
+{
+    if a < b { 0 } else { a - b }
+}
+
+// How far before the cut turn of a pattern, which has this many samples, the last turn with a position begins: it is the cut one or the one before.
+fn turn_back(position: u32, cut: u32, length: u32) -> u32
+    ensures { λ r. ⌜ r ≡ choose (ltb position cut) 0 length ⌝ }
+{
+    if position < cut { 0 } else { length }
 }
 
 // The last sample of a position below a limit, in a pattern that starts at sample `start`.
-fn last_below(limit: u64, start: u64, count: u64, length: u64, position: u64) -> Latest
-    requires { ⌜ (limit ≤ frameLimit) × (position < length) ⌝ }
+fn last_below(limit: u64, start: u64, count: u32, length: u32, position: u32) -> u64
+    requires { ⌜ (start ≤ frameLimit) × (position < length) ⌝ }
     ensures { λ r. ⌜ toldLatest r ≡ positions.lastBelow limit start count length position ⌝ }
 {
-    if limit <= start {
-        return Latest::Nothing;
+    let n = least(count as u64, without(limit, start)) as u32;
+    let cut = n % length;
+    let whole = n - cut;
+    let back = turn_back(position, cut, length);
+    let next = start + position as u64 + 1;
+    if whole < back {
+        0
+    } else {
+        next + (whole - back) as u64
     }
-    let n = least(count, limit - start);
-    if n <= position {
-        return Latest::Nothing;
-    }
-    let turns = (n - 1 - position) / length;
-    Latest::Sample(start + (position + turns * length))
 }
 
-// A member with distance d is clean in time below this sample.
-fn limit_ahead(wanted: u64, d: u64) -> u64
-    requires { ⌜ wanted < frameLimit ⌝ }
-    ensures { λ r. ⌜ r ≡ suc wanted - d ⌝ }
-{
-    if wanted < d {
-        return 0;
-    }
-    wanted + 1 - d
-}
-
-// So many samples before a sample, and one.
-fn before(at: Latest, d: u64) -> Latest
+// So many samples before a sample, and one; none where that is below 0.
+fn before(at: u64, d: u16) -> u64
     ensures { λ r. ⌜ toldLatest r ≡ begunBefore (toldLatest at) d ⌝ }
 {
-    match at {
-        Latest::Nothing => Latest::Nothing,
-        Latest::Sample(k) => {
-            if k <= d {
-                return Latest::Nothing;
-            }
-            Latest::Sample(k - d - 1)
-        }
-    }
+    let back = d as u64 + 1;
+    if at < back { 0 } else { at - back }
 }
 
 // The greatest begin of a position, whose index has this distance.
 pub fn best_at(
     wanted: u64,
     start: u64,
-    count: u64,
-    length: u64,
-    position: u64,
+    count: u32,
+    length: u32,
+    position: u32,
     distance: Distance,
-) -> Latest
-    requires { ⌜ (wanted < frameLimit) × (position < length) ⌝ }
+) -> u64
+    requires { ⌜ (wanted < frameLimit) × (start ≤ frameLimit) × (position < length) ⌝ }
     ensures { λ r. ⌜ toldLatest r ≡ positions.bestAt wanted start count length position (toldDistance distance) ⌝ }
 {
     match distance {
-        Distance::Nothing => Latest::Nothing,
-        Distance::Ahead(d) => { last_below(limit_ahead(wanted, d), start, count, length, position) }
+        Distance::Nothing => 0,
+        Distance::Ahead(d) => {
+            let limit = without(wanted + 1, d as u64);
+            last_below(limit, start, count, length, position)
+        }
         Distance::Behind(d) => { before(last_below(wanted + 1, start, count, length, position), d) }
     }
 }

@@ -1,21 +1,19 @@
 // The search along a table's patterns, cut behind the wanted frame. No sample behind it is looked at, and no work is done for each sample.
 use super::Decoded;
-use super::Latest;
 use super::SearchedFor;
 use super::distances::index_distance;
 use super::positions::best_at;
-use super::positions::larger;
+use super::positions::later;
 use super::positions::least;
 use group_sgpd::SgpdHead;
 use table_patterns::PatternAt;
 use table_patterns::index_at;
-use table_patterns::used_positions;
 use table_runs::NextPattern;
 use table_runs::SampleTable;
 use table_runs::first_pattern;
 use table_runs::next_pattern;
 ghost use mathlib.Core.Path.{_≡_};
-ghost use Prim.Native.Nat.{_<_};
+ghost use Prim.Native.Nat.{_<_, _≤_};
 ghost use Rattle.group_sgpd.specs.Head.{ReadWhole};
 ghost use Rattle.group_sgpd.specs.Marks.{Marks};
 ghost use Rattle.table_patterns.specs.Place.{patternIn, Stands};
@@ -35,7 +33,8 @@ fn cut_pattern(pattern: PatternAt, left: u64) -> PatternAt
     }
 }
 
-// The used positions of a pattern that starts at sample `start`, in order.
+// The positions of a pattern that starts at sample `start`, in order. A position that no sample uses is asked like the others, so that the work is that of the table's
+// indices, whatever its counts are; it has no last sample, and what its decoder refuses does not matter.
 fn search_pattern(
     table_s: &[u8],
     pattern: PatternAt,
@@ -45,24 +44,28 @@ fn search_pattern(
     grouping_type: u32,
     wanted: u64,
     start: u64,
-    before: Latest,
+    before: u64,
 ) -> SearchedFor
-    requires { ⌜ (Stands (now «table_s») pattern) × (ReadWhole (now s) head) × (Marks (now s) (now marks)) × (wanted < frameLimit) ⌝ }
+    requires { ⌜ (Stands (now «table_s») pattern) × (ReadWhole (now s) head) × (Marks (now s) (now marks)) × (wanted < frameLimit) × (start ≤ frameLimit) ⌝ }
     ensures { λ r. ⌜ toldSearch r ≡ searchedPattern «grouping_type» (now (s .entry)) wanted start (toldLatest before) (patternIn (now («table_s» .entry)) pattern) ⌝ }
 {
-    let used = used_positions(pattern);
-    let count = pattern.count as u64;
-    let length = pattern.length as u64;
+    let count = pattern.count;
+    let length = pattern.length;
     let mut latest = before;
     let mut i: u32 = 0;
-    while i < used {
+    while i < length {
         let index = index_at(table_s, pattern, i);
         match index_distance(s, head, marks, grouping_type, index) {
             Decoded::Distance(d) => {
-                latest = larger(latest, best_at(wanted, start, count, length, i as u64, d));
+                latest = later(latest, best_at(wanted, start, count, length, i, d));
                 i = i + 1;
             }
-            Decoded::Refused(n) => return SearchedFor::Refused(n),
+            Decoded::Refused(n) => {
+                if i < count {
+                    return SearchedFor::Refused(n);
+                }
+                i = i + 1;
+            }
         }
     }
     SearchedFor::Latest(latest)
@@ -85,7 +88,7 @@ pub fn search_table(
     let mut here = first_pattern(table);
     let mut left = wanted + 1;
     let mut start: u64 = 0;
-    let mut latest = Latest::Nothing;
+    let mut latest: u64 = 0;
     while 0 < left {
         match next_pattern(table_s, table, here) {
             NextPattern::Pattern(pattern, behind) => {

@@ -2,7 +2,7 @@
 use mathlib.Core.Path.{_≡_, ap, sym, _∙_}
 use mathlib.Core.List.{List}
 use mathlib.Core.Option.{Option, none, some}
-use Prim.Native.Nat.{ℕ, _<_}
+use Prim.Native.Nat.{ℕ, suc, _-_, _<_}
 use native.Mathlib.Omega.{arith}
 use borrow.Author.Needs.{needs}
 use Rattle.base_fields.specs.Answer.{Answer, given}
@@ -24,7 +24,6 @@ use Rattle.listing_meanings.proofs.Found.{entryBytes, entries-are}
 use Rattle.use_decode_start.specs.Start.{Searched, BeginsIn}
 use Rattle.use_decode_start.specs.Inner.{toldLatest, toldSearch, searchedIn}
 use Rattle.use_decode_start.specs.From.{searchedBy, searchedFrom}
-use Rattle.use_decode_start.specs.declared.Latest.{Latest}
 use Rattle.use_decode_start.proofs.From.{from-table, from-entries, from-searched, not-covered, told-refused, told-given, begins-early}
 use Rattle.use_decode_start.proofs.start_in.Statement.{statement}
 use Rattle.use_decode_start.proofs.start_in.Tie as tie
@@ -108,15 +107,31 @@ module _ (c : tie.After-b) where
   abbrev sought : tie.After-search-table
   sought = c .before .before
 
-  abbrev latest : Latest
+  abbrev answered : tie.After-h
+  answered = head sought
+
+  abbrev latest : ℕ
   latest = c .b .given .0 .0
 
-  found : (o : Option ℕ) → toldLatest latest ≡ o
-      → (searchedBy (t (head sought)) (wanted (head sought)) (entries (head sought)) (patterns (at (head sought))) ≡ given (searched (head sought))) × Greatest (BeginsIn (t (head sought)) (wanted (head sought)) (searched (head sought))) o
+  -- the search was told so, and this is its greatest begin
+  abbrev Found : Option ℕ → Type 0
+  Found o =
+      let h = answered in
+      (searchedBy (t h) (wanted h) (entries h) (patterns (at h)) ≡ given (searched h)) × Greatest (BeginsIn (t h) (wanted h) (searched h)) o
+
+  found : (o : Option ℕ) → toldLatest latest ≡ o → Found o
   found o e =
-      let h = head sought in
+      let h = answered in
       told-given (t h) (wanted h) (s h) (entries h) (patterns (at h)) (filled-held (start (at h) .args .kind) (ts (at h)) (table (at h)) (held (at h))) (entries-are (whole h) 0) (enough sought)
       (ap (λ (x : Option ℕ). given x) (sym e) ∙ sym (ap toldSearch (c .b .given .1)) ∙ told sought)
+
+-- which is a sample
+module _ (c : tie.Else2) where
+  abbrev answer : tie.After-b
+  answer = c .before .before
+
+  begun : Found answer (some (latest answer - 1))
+  begun = let e : latest answer ≡ suc (latest answer - 1) = omega (arith, c .if2 .left) in found answer (some (latest answer - 1)) (ap toldLatest e)
 
 read-table-requires : tie.Need-read-table-requires
 read-table-requires c κs = search needs
@@ -198,31 +213,22 @@ returns-5 c =
     ∙ told-refused (t h) (wanted h) (s h) (entries h) (patterns (at h)) (filled-held (start (at h) .args .kind) (ts (at h)) (table (at h)) (held (at h))) (entries-are (whole h) 0) (enough sought)
     (sym (ap toldSearch (c .before .n4 .given .1)) ∙ told sought)
 
-enum-told-2 : tie.Need-enum-told-2
-enum-told-2 c = search needs
-
-enum-known-latest : tie.Need-enum-known-latest
-enum-known-latest c = search needs
-
-cast-t31 : tie.Need-cast-t31
-cast-t31 c =
-    let b = c .before .before .before .before in
-    let known = c .before .latest .given in
-    let greatest = found b (some (known .0 .0)) (ap toldLatest (known .1)) .1 in
-    omega (arith, begins-early (greatest .holds), c .before .before .before .before .before .before .before .before .before .before .struct-known .given)
-
 returns-6 : tie.Need-returns-6
 returns-6 c =
-    let b = c .before .before .before in
-    let told = found b none (ap toldLatest (c .enum-told2 .given .1)) in
-    record { searched = searched (head (sought b)); told = from (head (sought b)) ∙ told .0; greatest = told .1 }
+    let b = c .before .before in
+    let told = found b none (ap toldLatest (c .if2 .taken)) in
+    record { searched = searched (answered b); told = from (answered b) ∙ told .0; greatest = told .1 }
+
+sub-t29 : tie.Need-sub-t29
+sub-t29 c = search needs
+
+cast-t30 : tie.Need-cast-t30
+cast-t30 c = omega (arith, begins-early (begun c .1 .holds), c .before .before .before .before .before .before .before .before .struct-known .given)
 
 returns-7 : tie.Need-returns-7
 returns-7 c =
-    let b = c .before .before .before .before in
-    let known = c .before .latest .given in
-    let told = found b (some (known .0 .0)) (ap toldLatest (known .1)) in
-    record { searched = searched (head (sought b)); told = from (head (sought b)) ∙ told .0; greatest = told .1 }
+    let h = answered (answer c) in
+    record { searched = searched h; told = from h ∙ begun c .0; greatest = begun c .1 }
 
 pub start-in-spec : {M : Type 1} → statement M
 start-in-spec =
@@ -248,8 +254,7 @@ start-in-spec =
     enum-known-b
     enum-known-n-4
     returns-5
-    enum-told-2
-    enum-known-latest
-    cast-t31
     returns-6
+    sub-t29
+    cast-t30
     returns-7)

@@ -6,11 +6,8 @@ use borrow.Author.Needs.{needs}
 use Rattle.use_decode_start.proofs.distances.signed_distance.Statement.{statement}
 use Rattle.use_decode_start.proofs.distances.signed_distance.Tie as tie
 
-sub-t5 : tie.Need-sub-t5
-sub-t5 c = search needs
-
-cast-t6 : tie.Need-cast-t6
-cast-t6 c = search needs
+sub-t4 : tie.Need-sub-t4
+sub-t4 c = search needs
 
 returns : tie.Need-returns
 unfolding signed16
@@ -21,4 +18,4 @@ unfolding signed16
 returns-2 c = rw (le-ltb _ _ (c .if1 .left)) refl
 
 pub signed-distance-spec : {M : Type 1} → statement M
-signed-distance-spec = tie.close (tie.spec sub-t5 cast-t6 returns returns-2)
+signed-distance-spec = tie.close (tie.spec sub-t4 returns returns-2)

@@ -1,31 +1,27 @@
--- By cases.
-use mathlib.Core.Path.{refl, sym}
-use Rattle.use_decode_start.proofs.Bests.{begun-none, begun-below, begun-at}
+-- What is left without so many samples and one.
+use mathlib.Core.Path.{_≡_, ap, _∙_}
+use Prim.Native.Nat.{ℕ, suc, _+_, _-_}
+use native.Mathlib.Omega.{arith}
 use borrow.Author.Needs.{needs}
+use Rattle.use_decode_start.specs.Inner.{toldLatest}
+use Rattle.use_decode_start.proofs.Bests.{begun}
 use Rattle.use_decode_start.proofs.positions.before.Statement.{statement}
 use Rattle.use_decode_start.proofs.positions.before.Tie as tie
 
-enum-told : tie.Need-enum-told
-enum-told c = search needs
-
-enum-known-at : tie.Need-enum-known-at
-enum-known-at c = search needs
+add-back : tie.Need-add-back
+add-back c = search needs
 
 returns : tie.Need-returns
-returns c = rw (c .before .before .at .given .1) (sym (begun-below _ _ (c .if1 .taken)))
-
-sub-t6 : tie.Need-sub-t6
-sub-t6 c = search needs
-
-sub-t7 : tie.Need-sub-t7
-sub-t7 c = search needs
+returns c =
+    let a = c .before .args in
+    let e : 0 ≡ a .at - suc (a .d) = omega (arith, c .if1 .taken) in
+    ap toldLatest e ∙ begun (a .at) (a .d)
 
 returns-2 : tie.Need-returns-2
-returns-2 c = rw (c .enum-told .given .1) (sym (begun-none _))
-
-returns-3 : tie.Need-returns-3
-returns-3 c = rw (c .before .before .at .given .1) (sym (begun-at _ _ (c .if1 .left)))
+returns-2 c =
+    let a = c .before .args in
+    let e : a .at - (a .d + 1) ≡ a .at - suc (a .d) = omega arith in
+    ap toldLatest e ∙ begun (a .at) (a .d)
 
 pub before-spec : {M : Type 1} → statement M
-before-spec =
-    tie.close (tie.spec enum-told enum-known-at returns sub-t6 sub-t7 returns-2 returns-3)
+before-spec = tie.close (tie.spec add-back returns returns-2)

@@ -13,8 +13,14 @@ enum-told c = search needs
 enum-known-distance : tie.Need-enum-known-distance
 enum-known-distance c = search needs
 
-limit-ahead-requires : tie.Need-limit-ahead-requires
-limit-ahead-requires c κs = search needs
+add-without : tie.Need-add-without
+add-without c = search needs
+
+cast-without : tie.Need-cast-without
+cast-without c = search needs
+
+without-requires : tie.Need-without-requires
+without-requires c κs = search needs
 
 last-below-requires : tie.Need-last-below-requires
 last-below-requires c κs = search needs
@@ -38,7 +44,7 @@ returns c = rw (c .enum-told .given .1) refl
 returns-2 : tie.Need-returns-2
 returns-2 c =
     let a = c .before .before .before .before .before .args in
-    rw (c .before .before .before .distance .given .1) (rw (c .before .limit-ahead .ensures) at (c .last-below .ensures) ∙ best-ahead (a .wanted) (a .start) (a .count) (a .length) (a .position) _)
+    rw (c .before .before .before .distance .given .1) (rw (c .before .without .ensures, add-one) at (c .last-below .ensures) ∙ best-ahead (a .wanted) (a .start) (a .count) (a .length) (a .position) _)
 
 returns-3 : tie.Need-returns-3
 returns-3 c =
@@ -52,7 +58,9 @@ best-at-spec =
     (tie.spec
     enum-told
     enum-known-distance
-    limit-ahead-requires
+    add-without
+    cast-without
+    without-requires
     last-below-requires
     enum-known-distance-2
     add-last-below

@@ -96,7 +96,7 @@ search-pattern-requires c κs =
     let st = step known .stands in
     let stands = subst (λ (p : PatternAt). Stands (start l .args .table-s .now) p) (sym (c .cut-pattern .ensures))
     (record { narrow = st .narrow; some = st .some; late = st .late; inside = st .inside; short = st .short }) in
-    (stands, start l .pre .1, start l .pre .2, start l .pre .3)
+    (stands, start l .pre .1, start l .pre .2, start l .pre .3, omega (arith, l .loop .inv .1, start l .pre .3))
 
 enum-known-b : tie.Need-enum-known-b Inv-loop μ-loop
 enum-known-b c = search needs
