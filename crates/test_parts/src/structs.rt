@@ -10,11 +10,13 @@ use table_rows::Found;
 use table_rows::ParsedTable;
 use test_struct_runs::TableRead;
 
-fn same_answer(a: ParsedTable, b: ParsedTable) -> bool {
+// Both are refused with this number; or, where it is 0, both are tables of the same type with as many rows.
+fn same_answer(a: ParsedTable, b: ParsedTable, refusal: u32) -> bool {
     match a {
         ParsedTable::Table(x) => match b {
             ParsedTable::Table(y) => {
-                x.grouping_type == y.grouping_type
+                refusal == 0
+                    && x.grouping_type == y.grouping_type
                     && x.grouping_type_parameter == y.grouping_type_parameter
                     && x.entry_count == y.entry_count
             }
@@ -22,7 +24,7 @@ fn same_answer(a: ParsedTable, b: ParsedTable) -> bool {
         },
         ParsedTable::Refused(n) => match b {
             ParsedTable::Table(_) => false,
-            ParsedTable::Refused(m) => n == m,
+            ParsedTable::Refused(m) => n == refusal && m == refusal,
         },
     }
 }
@@ -60,27 +62,37 @@ fn same_numbers(a: &[u32; 8], b: &[u32; 8]) -> bool {
     true
 }
 
-// A table in row structs has the answer and the rows that it has in flat rows.
-fn same_read(read: TableRead, answer: ParsedTable, flat: &[u32; 8]) -> bool {
+// A table in row structs has the answer and the rows that it has in flat rows; the answer is a table for refusal 0, else that refusal.
+fn same_read(read: TableRead, answer: ParsedTable, flat: &[u32; 8], refusal: u32) -> bool {
     let told = read.answer;
     let rows = read.rows;
     let numbers = numbers_of(rows);
     if same_numbers(&numbers, flat) {
-        return same_answer(told, answer);
+        return same_answer(told, answer, refusal);
     }
     false
 }
 
-fn sbgp_agrees(s: &[u8]) -> bool {
+fn sbgp_agrees(s: &[u8], refusal: u32) -> bool {
     let mut flat = [7u32; 8];
     let answer = table_sbgp::parse_sbgp(s, &mut flat);
-    same_read(test_struct_runs::sbgp_over(s, sevens()), answer, &flat)
+    same_read(
+        test_struct_runs::sbgp_over(s, sevens()),
+        answer,
+        &flat,
+        refusal,
+    )
 }
 
-fn csgp_agrees(s: &[u8]) -> bool {
+fn csgp_agrees(s: &[u8], refusal: u32) -> bool {
     let mut flat = [7u32; 8];
     let answer = table_csgp::parse_csgp(s, &mut flat);
-    same_read(test_struct_runs::csgp_over(s, sevens()), answer, &flat)
+    same_read(
+        test_struct_runs::csgp_over(s, sevens()),
+        answer,
+        &flat,
+        refusal,
+    )
 }
 
 // The rows of eight numbers.
@@ -218,30 +230,39 @@ fn run_rows() {
 fn run_sbgp() {
     let rows =
         b"\x00\x00\x00\x00rap \x00\x00\x00\x02\x00\x00\x00\x03\x00\x00\x00\x01\x00\x00\x00\x02\x00\x00\x00\x09";
-    tell(b"sbgp in row structs", sbgp_agrees(rows));
+    tell(b"sbgp in row structs", sbgp_agrees(rows, 0));
     let cut =
         b"\x00\x00\x00\x00rap \x00\x00\x00\x02\x00\x00\x00\x03\x00\x00\x00\x01\x00\x00\x00\x02\x00\x00\x00";
-    tell(b"sbgp in row structs, rows cut", sbgp_agrees(cut));
+    tell(b"sbgp in row structs, rows cut", sbgp_agrees(cut, 23));
     let many =
         b"\x01\x00\x00\x00rap \x00\x00\x00\x09\x00\x00\x00\x05\x00\x00\x00\x01\x00\x00\x00\x01\x00\x00\x00\x01\x00\x00\x00\x01\x00\x00\x00\x01\x00\x00\x00\x01\x00\x00\x00\x01\x00\x00\x00\x01\x00\x00\x00\x01\x00\x00\x00\x01";
-    tell(b"sbgp in row structs, a record too few", sbgp_agrees(many));
+    tell(
+        b"sbgp in row structs, a record too few",
+        sbgp_agrees(many, 29),
+    );
 }
 
 fn run_csgp() {
     let joined = b"\x00\x00\x00\x00rap \x00\x00\x00\x02\x12\x23\x55\x60";
-    tell(b"csgp in row structs", csgp_agrees(joined));
+    tell(b"csgp in row structs", csgp_agrees(joined, 0));
     let no_index = b"\x00\x00\x00\x00rap \x00\x00\x00\x02\x12\x23";
-    tell(b"csgp in row structs, an index cut", csgp_agrees(no_index));
+    tell(
+        b"csgp in row structs, an index cut",
+        csgp_agrees(no_index, 27),
+    );
 }
 
 fn run_csgp_over() {
     let period = b"\x00\x00\x00\x00rap \x00\x00\x00\x01\x37\x12\x20";
     tell(
         b"csgp in row structs, a record too few",
-        csgp_agrees(period),
+        csgp_agrees(period, 29),
     );
     let over = b"\x00\x00\x00\x0crap \x00\x00\x00\x02\x1f\xff\xff\xff\xf1\x00\x00\x00\x01\x11";
-    tell(b"csgp in row structs, a row too long", csgp_agrees(over));
+    tell(
+        b"csgp in row structs, a row too long",
+        csgp_agrees(over, 28),
+    );
 }
 
 pub fn run() {
