@@ -31,6 +31,7 @@ unsafe extern "C" {
     pub fn film_split_csgp_index(raw: u32, out: *mut u64);
     pub fn film_described_place(film: *const u8, film_len: usize, fragment: *const u8, fragment_len: usize, raw: u32, out: *mut u64) -> u32;
     pub fn film_rate_of_point(bitrate: u32, share: u16) -> u64;
+    pub fn film_roll_start(s: *const u8, len: usize, frame: u32, out: *mut u64) -> u32;
     pub fn film_cue_listing(body: *const u8, len: usize, kind: u32, rows: *mut u32, rows_len: usize, listing: *mut u8, listing_len: usize, out: *mut u64) -> u32;
 }
 

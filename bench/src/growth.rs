@@ -89,6 +89,10 @@ pub fn run(bench: &mut Bench) {
     bench.grow("decode_alike, an unknown type", "bytes, all the same", |n| vec![7; n as usize], |s| assert_eq!(alike(b"abcd", s, s), (0, 1)));
     bench.grow("decode_alike, rash", "points, all the same", |n| rash(n as u16 + 1), |s| assert_eq!(alike(b"rash", s, s), (0, 1)));
     bench.grow("cue_listing", "rows, each a stretch", stretches, listed);
+    for (name, last) in [("first", false), ("last", true)] {
+        let frame = |n: u32| if last { n - 1 } else { 0 };
+        bench.grow(&format!("roll_start, the {name} frame"), "indices of a pattern", |n| (frame(n), stretches(n).0), |(frame, s)| assert_eq!(numbered(film_roll_start, s, *frame).0, 0));
+    }
 }
 
 /// A csgp whose rows stay the same in number while its samples grow.

@@ -8,7 +8,6 @@ use std::hint::black_box;
 
 unsafe extern "C" {
     fn film_find_stbl(s: *const u8, len: usize, track: u32, out: *mut u64) -> u32;
-    fn film_roll_start(s: *const u8, len: usize, frame: u32, out: *mut u64) -> u32;
     fn film_quote_sbgp(rows: *const u32, len: usize, out: *mut u64) -> u32;
     fn film_quote_csgp(rows: *const u32, len: usize, out: *mut u64) -> u32;
     fn film_write_sbgp(kind: u32, rows: *const u32, len: usize, quoted: usize, body: *mut u8, body_len: usize, out: *mut u64) -> u32;
@@ -62,28 +61,41 @@ pub fn run(bench: &mut Bench) {
     });
 }
 
-/// Where decoding begins in a roll group, for its first and for its last frame, as its sample counts grow.
+/// Where decoding begins in a roll group, for its first and for its last frame, as its sample counts grow. A table that is longer than its count has indices that no
+/// sample uses.
 pub fn samples(bench: &mut Bench) {
-    let sgpd = sgpd_of(b"roll", &[vec![0, 0], vec![0, 0]]);
-    for shape in ["an sbgp row", "csgp [1]", "csgp [1,2]"] {
+    let near = sgpd_of(b"roll", &[vec![0, 0], vec![0, 0]]);
+    let far = sgpd_of(b"roll", &[vec![0, 3], vec![0xff, 0xfe]]);
+    for shape in ["an sbgp row", "csgp [1]", "csgp [1,2]", "csgp [1,2,0,9], distances 3 and -2"] {
         for last in [false, true] {
             for samples in [1, 2, 1000, 1_000_000, u32::MAX] {
-                let table = match shape {
+                let patterned = |indices: &[u32]| atom_of(b"csgp", &csgp(b"roll", 3, &[(samples, indices.to_vec())]));
+                let (table, sgpd) = match shape {
                     "an sbgp row" => {
                         let row = [[0; 4], *b"roll", 1u32.to_be_bytes(), samples.to_be_bytes(), 1u32.to_be_bytes()].concat();
-                        atom_of(b"sbgp", &row)
+                        (atom_of(b"sbgp", &row), &near)
                     }
-                    "csgp [1]" => atom_of(b"csgp", &csgp(b"roll", 3, &[(samples, vec![1])])),
-                    _ => atom_of(b"csgp", &csgp(b"roll", 3, &[(samples, vec![1, 2])])),
+                    "csgp [1]" => (patterned(&[1]), &near),
+                    "csgp [1,2]" => (patterned(&[1, 2]), &near),
+                    _ => (patterned(&[1, 2, 0, 9]), &far),
                 };
-                let s = black_box([table, atom_of(b"sgpd", &sgpd)].concat());
+                let s = black_box([table, atom_of(b"sgpd", sgpd)].concat());
                 let frame = if last { samples - 1 } else { 0 };
-                let mut out = [0u64; 1];
+                let (mut told, mut out) = (0, [u64::MAX; 2]);
                 bench.measure(format!("samples\troll_start of the {} frame, {shape}\t{samples}", if last { "last" } else { "first" }), || {
-                    assert_eq!(unsafe { film_roll_start(s.as_ptr(), s.len(), frame, out.as_mut_ptr()) }, 0)
+                    told = numbered_into(film_roll_start, &s, frame, &mut out)
                 });
-                assert_eq!(out[0], frame as u64);
+                let begin = if sgpd == &near { Some(frame) } else { far_begin(frame) };
+                assert_eq!((told, out[0]), begin.map_or((255, u64::MAX), |b| (0, b as u64)));
             }
         }
     }
+}
+
+/// Of the pattern [1,2,0,9] with the distances 3 and -2: every fourth sample begins at itself and is clean three later, the one behind it begins two before itself.
+fn far_begin(frame: u32) -> Option<u32> {
+    let last = |position: u32, up_to: u32| up_to.checked_sub(position).map(|k| k / 4 * 4 + position);
+    let ahead = frame.checked_sub(3).and_then(|up_to| last(0, up_to));
+    let behind = last(1, frame).and_then(|s| s.checked_sub(2));
+    ahead.max(behind)
 }
