@@ -1,5 +1,5 @@
 -- The last turn of a pattern that has a position, among the pattern's first samples.
-use mathlib.Core.Path.{_≡_, refl, ap, sym, _∙_}
+use mathlib.Core.Path.{_≡_, ap, _∙_}
 use Prim.Native.Nat.{ℕ, zero, suc, _+_, _-_, _*_, _/_, _%_, _≤_, _<_}
 use native.Mathlib.Nat.{add-zero, suc-mul, mod-lt, div-add-mod', div-eq-of-lt, mul-add-div-right}
 use native.Mathlib.Decide.{decLt}

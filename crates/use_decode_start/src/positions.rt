@@ -28,14 +28,14 @@ fn without(a: u64, b: u64) -> u64
     if a < b { 0 } else { a - b }
 }
 
-// How far before the cut turn of a pattern, which has this many samples, the last turn with a position begins: it is the cut one or the one before.
+// The last turn of a pattern is cut behind `cut` samples. How far before it the last turn begins that has a position: it is the cut one, or the one before it.
 fn turn_back(position: u32, cut: u32, length: u32) -> u32
     ensures { λ r. ⌜ r ≡ choose (ltb position cut) 0 length ⌝ }
 {
     if position < cut { 0 } else { length }
 }
 
-// The last sample of a position below a limit, in a pattern that starts at sample `start`.
+// The last sample of a position below a limit, in a pattern that starts at sample `start`: of its n samples below the limit, `whole` are those of whole turns.
 fn last_below(limit: u64, start: u64, count: u32, length: u32, position: u32) -> u64
     requires { ⌜ (start ≤ frameLimit) × (position < length) ⌝ }
     ensures { λ r. ⌜ toldLatest r ≡ positions.lastBelow limit start count length position ⌝ }

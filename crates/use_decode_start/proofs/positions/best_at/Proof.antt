@@ -1,5 +1,5 @@
 -- By the distance.
-use mathlib.Core.Path.{refl, ap, sym, _∙_}
+use mathlib.Core.Path.{refl, _∙_}
 use native.Mathlib.Numerals.{add-one}
 use Rattle.table_views.specs.Search.{bestAt}
 use Rattle.use_decode_start.proofs.Bests.{best-ahead, best-behind}
