@@ -1,11 +1,12 @@
-// Numbers at a place of a slice: big-endian at a byte place, and fields of a bit stream at a bit place.
+// Parts of a slice, and numbers at a place of it: big-endian at a byte place, and fields of a bit stream at a bit place.
 pub mod fourcc;
 
 ghost use mathlib.Core.Path.{_≡_};
 ghost use Prim.Native.Nat.{_+_, _*_, _≤_, _<_, _^_};
 ghost use lib.ListN.{length};
-ghost use Rattle.base_fields.specs.Answer.{inputLimit};
+ghost use Rattle.base_fields.specs.Answer.{inputLimit, given};
 ghost use Rattle.base_fields.specs.Number.{beAt, bitsAt};
+ghost use Rattle.base_fields.specs.Span.{GivesPart};
 
 // The longest input that is taken, in bytes.
 pub const INPUT_LIMIT: usize = 67108864;
@@ -14,6 +15,15 @@ pub const INPUT_LIMIT: usize = 67108864;
 pub enum FilledRun {
     Records(u32),
     Refused(u32),
+}
+
+// A part of a slice, by its place and its length.
+pub fn bytes_at(s: &[u8], place: usize, size: usize) -> &[u8]
+    requires { ⌜ place + size ≤ length (now s) ⌝ }
+    ensures { λ r. ⌜ GivesPart (given (record { place = place; size = size })) (now (s .entry)) (s .entry .ptr) (now r) (r .ptr) ⌝ }
+{
+    let end = place + size;
+    &s[place..end]
 }
 
 pub fn read_u8(s: &[u8], at: usize) -> u8

@@ -6,6 +6,7 @@ ghost use Rattle.group_sgpd.specs.Sgpd.{sgpd};
 ghost use Rattle.group_fragments.specs.Fragments.{localBit, partIn, describedAt, GivesDescribed, plainIndex, rateOf};
 ghost use Rattle.group_fragments.specs.Told.{toldPart};
 use base_fields::INPUT_LIMIT;
+use base_fields::bytes_at;
 use base_ids::DescriptionIndex;
 use group_sgpd::FoundEntry;
 use group_sgpd::ParsedSgpd;
@@ -90,16 +91,10 @@ pub fn described<'a>(film: &'a [u8], fragment: &'a [u8], raw: u32) -> &'a [u8]
     ensures { λ r. ⌜ GivesDescribed (describedAt (now (film .entry)) (now (fragment .entry)) raw) (now (film .entry)) (now (fragment .entry)) (film .entry .ptr) (fragment .entry .ptr) (now r) (r .ptr) ⌝ }
 {
     match described_place(film, fragment, raw) {
-        FoundPart::Film(at, size) => {
-            let end = at + size;
-            &film[at..end]
-        }
-        FoundPart::Fragment(at, size) => {
-            let end = at + size;
-            &fragment[at..end]
-        }
-        FoundPart::Nothing => &film[0..0],
-        FoundPart::Refused(_) => &film[0..0],
+        FoundPart::Film(at, size) => bytes_at(film, at, size),
+        FoundPart::Fragment(at, size) => bytes_at(fragment, at, size),
+        FoundPart::Nothing => bytes_at(film, 0, 0),
+        FoundPart::Refused(_) => bytes_at(film, 0, 0),
     }
 }
 

@@ -17,6 +17,7 @@ use super::spans::lengths_by;
 use super::spans::skip;
 use super::spans::skip_all;
 use super::spans::span_at;
+use base_fields::bytes_at;
 use base_ids::DescriptionIndex;
 
 pub(crate) fn found_at(s: &[u8], lengths: Lengths, count: u32, at: usize) -> FoundEntry
@@ -84,11 +85,8 @@ pub fn entry(s: &[u8], index: DescriptionIndex) -> &[u8]
     ensures { λ r. ⌜ GivesPart (entryAt (now (s .entry)) (index .0)) (now (s .entry)) (s .entry .ptr) (now r) (r .ptr) ⌝ }
 {
     match entry_place(s, index) {
-        FoundEntry::Entry(at, size) => {
-            let end = at + size;
-            &s[at..end]
-        }
-        FoundEntry::Nothing => &s[0..0],
-        FoundEntry::Refused(_) => &s[0..0],
+        FoundEntry::Entry(at, size) => bytes_at(s, at, size),
+        FoundEntry::Nothing => bytes_at(s, 0, 0),
+        FoundEntry::Refused(_) => bytes_at(s, 0, 0),
     }
 }

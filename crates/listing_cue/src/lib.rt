@@ -1,6 +1,7 @@
 // The cue listing of an stbl's body (document 01, part 8).
 mod write;
 
+use base_fields::bytes_at;
 use base_ids::RowNumber;
 use group_sgpd::ReadHead;
 use group_sgpd::SgpdHead;
@@ -127,16 +128,7 @@ pub fn cue_listing(
         FoundSources::Refused(n) => return CueListing::Refused(n),
     };
     let kind = found.kind;
-    let table = found.table_place;
-    let table_end = table + found.table_size;
-    let sgpd = found.sgpd_place;
-    let sgpd_end = sgpd + found.sgpd_size;
-    list_payloads(
-        kind,
-        &body[table..table_end],
-        &body[sgpd..sgpd_end],
-        grouping_type,
-        rows,
-        out,
-    )
+    let table = bytes_at(body, found.table_place, found.table_size);
+    let sgpd = bytes_at(body, found.sgpd_place, found.sgpd_size);
+    list_payloads(kind, table, sgpd, grouping_type, rows, out)
 }

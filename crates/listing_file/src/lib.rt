@@ -3,6 +3,7 @@ ghost use Rattle.listing_cue.specs.Told.{GivesCue};
 ghost use Rattle.listing_file.specs.File.{fileCall};
 use atom_path::FoundBody;
 use atom_path::find_stbl;
+use base_fields::bytes_at;
 use base_ids::RowNumber;
 use listing_cue::CueListing;
 use listing_cue::cue_listing;
@@ -21,9 +22,8 @@ pub fn file_cue_listing(
     let found = find_stbl(s, track);
     match found {
         FoundBody::Body(body) => {
-            let place = body.place as usize;
-            let end = place + body.size as usize;
-            cue_listing(&s[place..end], grouping_type, rows, out)
+            let stbl = bytes_at(s, body.place as usize, body.size as usize);
+            cue_listing(stbl, grouping_type, rows, out)
         }
         FoundBody::Refused(n) => CueListing::Refused(n),
     }

@@ -2,6 +2,7 @@
 use super::Checked;
 use super::MeaningAt;
 use super::meaning_at;
+use base_fields::bytes_at;
 use base_ids::DescriptionIndex;
 use group_alike::Front;
 use group_alike::front_of;
@@ -42,8 +43,8 @@ fn check_meaning(grouping_type: u32, s: &[u8], meaning: MeaningAt) -> Checked
         MeaningAt::Outside => Checked::Passed,
         MeaningAt::Missing => Checked::Passed,
         MeaningAt::Entry(place, size) => {
-            let end = place + size;
-            match front_of(group_entries::layout_of(grouping_type), &s[place..end]) {
+            let layout = group_entries::layout_of(grouping_type);
+            match front_of(layout, bytes_at(s, place, size)) {
                 Front::Bytes(_) => Checked::Passed,
                 Front::Refused(n) => Checked::Refused(n),
             }

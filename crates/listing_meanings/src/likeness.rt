@@ -1,5 +1,6 @@
 // Whether two meanings are the same (document 01, part 8).
 use super::MeaningAt;
+use base_fields::bytes_at;
 use group_alike::Alike;
 use group_alike::decode_alike;
 ghost use Prim.Native.Nat.{_≤_};
@@ -24,9 +25,9 @@ fn entries_like(
             return true;
         }
     }
-    let end = place + size;
-    let other_end = other_place + other_size;
-    match decode_alike(grouping_type, &s[place..end], &s[other_place..other_end]) {
+    let entry = bytes_at(s, place, size);
+    let other = bytes_at(s, other_place, other_size);
+    match decode_alike(grouping_type, entry, other) {
         Alike::Same => true,
         Alike::Different => false,
         Alike::Refused(_) => false,

@@ -1,6 +1,7 @@
 // The distance of a description index.
 use super::Decoded;
 use super::Distance;
+use base_fields::bytes_at;
 use base_fields::read_u16;
 use base_ids::DescriptionIndex;
 use group_alike::Front;
@@ -64,8 +65,7 @@ fn meaning_distance(grouping_type: u32, s: &[u8], meaning: MeaningAt) -> Decoded
         MeaningAt::Outside => Decoded::Distance(Distance::Nothing),
         MeaningAt::Missing => Decoded::Distance(Distance::Nothing),
         MeaningAt::Entry(place, size) => {
-            let end = place + size;
-            entry_distance(layout_of(grouping_type), &s[place..end])
+            entry_distance(layout_of(grouping_type), bytes_at(s, place, size))
         }
     }
 }

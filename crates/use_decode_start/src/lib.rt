@@ -14,6 +14,7 @@ ghost use Rattle.use_decode_start.specs.Start.{GivesStart};
 ghost use Rattle.use_decode_start.specs.Told.{toldStart};
 ghost use Rattle.use_decode_start.specs.From.{searchedFrom, GivesBy};
 ghost use Rattle.use_decode_start.specs.Inner.{toldCounts};
+use base_fields::bytes_at;
 use base_fields::fourcc;
 use base_ids::COUNT_LIMIT;
 use base_ids::SampleNumber;
@@ -126,17 +127,9 @@ fn decode_start(body: &[u8], grouping_type: u32, frame: SampleNumber) -> DecodeS
         FoundSources::Refused(n) => return DecodeStart::Refused(n),
     };
     let kind = found.kind;
-    let table = found.table_place;
-    let table_end = table + found.table_size;
-    let sgpd = found.sgpd_place;
-    let sgpd_end = sgpd + found.sgpd_size;
-    start_in(
-        kind,
-        &body[table..table_end],
-        &body[sgpd..sgpd_end],
-        grouping_type,
-        frame,
-    )
+    let table = bytes_at(body, found.table_place, found.table_size);
+    let sgpd = bytes_at(body, found.sgpd_place, found.sgpd_size);
+    start_in(kind, table, sgpd, grouping_type, frame)
 }
 
 // By the roll group: a member with distance d of 0 or more begins at its sample and is clean d samples later; one with a negative distance

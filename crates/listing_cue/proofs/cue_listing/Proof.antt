@@ -1,7 +1,5 @@
 -- The walk's refusals; else the payloads that it found stand in the body, and the listing is that of `list_payloads`.
 use mathlib.Core.Path.{_≡_}
-use Prim.Native.Nat.{ℕ, _+_, _-_}
-use native.Mathlib.Omega.{arith}
 use borrow.Author.Needs.{needs}
 use Rattle.base_fields.specs.Answer.{given}
 use Rattle.listing_spec.specs.Walk.{sources}
@@ -12,10 +10,6 @@ use Rattle.listing_cue.proofs.From.{walk-refused, walk-found}
 use Rattle.listing_cue.proofs.Listed.{gives-refused}
 use Rattle.listing_cue.proofs.cue_listing.Statement.{statement}
 use Rattle.listing_cue.proofs.cue_listing.Tie as tie
-
--- a part as it is cut
-cut : (place size : ℕ) → place + size - place ≡ size
-cut place size = omega arith
 
 -- where the parts are found
 module _ (c : tie.After-f) where
@@ -42,41 +36,15 @@ returns c =
     let a = c .before .before .before .before .before .before .before .args in
     gives-refused _ _ _ (walk-refused (a .body .now) (a .grouping-type) _ _ (rw (c .before .n .given .1) at (c .before .before .before .find-sources .ensures)))
 
-add-table-end : tie.Need-add-table-end
-add-table-end c =
+bytes-at-requires : tie.Need-bytes-at-requires
+bytes-at-requires c κs =
+    let f = c .before in
+    table-stands (start f .args .body .now) (start f .args .grouping-type) (at f) (found f) .inside
+
+bytes-at-requires-2 : tie.Need-bytes-at-requires-2
+bytes-at-requires-2 c κs =
     let f = c .before .before in
-    let a = start f .args in
-    omega (arith, table-stands (a .body .now) (a .grouping-type) (at f) (found f) .inside, start f .good .0)
-
-add-sgpd-end : tie.Need-add-sgpd-end
-add-sgpd-end c =
-    let f = c .before .before .before in
-    let a = start f .args in
-    omega (arith, sgpd-stands (a .body .now) (a .grouping-type) (at f) (found f) .inside, start f .good .0)
-
-sub-list-payloads : tie.Need-sub-list-payloads
-sub-list-payloads c = search needs
-
-part-list-payloads-start : tie.Need-part-list-payloads-start
-part-list-payloads-start c = search needs
-
-part-list-payloads-end : tie.Need-part-list-payloads-end
-part-list-payloads-end c =
-    let f = c .before .before .before in
-    let a = start f .args in
-    table-stands (a .body .now) (a .grouping-type) (at f) (found f) .inside
-
-sub-list-payloads-2 : tie.Need-sub-list-payloads-2
-sub-list-payloads-2 c = search needs
-
-part-list-payloads-start-2 : tie.Need-part-list-payloads-start-2
-part-list-payloads-start-2 c = search needs
-
-part-list-payloads-end-2 : tie.Need-part-list-payloads-end-2
-part-list-payloads-end-2 c =
-    let f = c .before .before .before .before in
-    let a = start f .args in
-    sgpd-stands (a .body .now) (a .grouping-type) (at f) (found f) .inside
+    sgpd-stands (start f .args .body .now) (start f .args .grouping-type) (at f) (found f) .inside
 
 list-payloads-requires : tie.Need-list-payloads-requires
 list-payloads-requires c κs = search needs
@@ -89,9 +57,10 @@ same-length-2 c = search needs
 
 returns-2 : tie.Need-returns-2
 returns-2 c =
-    let f = c .before .before .before .before .before .before .before .before .before .before .before .before in
+    let called = c .before .before .before .before in
+    let f = called .before .before .before .before .before .before in
     let a = start f .args in
-    let listed = rw (cut (at f .«table_place») (at f .«table_size»), cut (at f .«sgpd_place») (at f .«sgpd_size»)) at (c .before .before .before .before .list-payloads .ensures) in
+    let listed = rw (called .before .before .before .before .bytes-at .ensures .bytes, called .before .before .before .bytes-at2 .ensures .bytes) at (called .list-payloads .ensures) in
     rw (walk-found (a .body .now) (a .grouping-type) _ _ (at f) (found f)) listed
 
 pub cue-listing-spec : {M : Type 1} → statement M
@@ -102,14 +71,8 @@ cue-listing-spec =
     enum-known-f
     enum-known-n
     returns
-    add-table-end
-    add-sgpd-end
-    sub-list-payloads
-    part-list-payloads-start
-    part-list-payloads-end
-    sub-list-payloads-2
-    part-list-payloads-start-2
-    part-list-payloads-end-2
+    bytes-at-requires
+    bytes-at-requires-2
     list-payloads-requires
     same-length
     same-length-2

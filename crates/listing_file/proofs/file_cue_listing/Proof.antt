@@ -5,16 +5,10 @@ use Rattle.atom_path.proofs.Bodies.{stbl-within}
 use Rattle.atom_path.specs.declared.FoundBody.{FoundBody}
 use Rattle.atom_path.specs.Told.{toldBody}
 use Rattle.atom_path.specs.Path.{stblAt}
-use native.Mathlib.Omega.{arith}
-use Prim.Native.Nat.{ℕ, _+_, _-_}
 use mathlib.Core.Path.{_≡_, refl, ap, sym, _∙_}
 use borrow.Author.Needs.{needs}
 use Rattle.listing_file.proofs.file_cue_listing.Statement.{statement}
 use Rattle.listing_file.proofs.file_cue_listing.Tie as tie
-
--- a part as it is cut
-cut : (place size : ℕ) → place + size - place ≡ size
-cut place size = omega arith
 
 -- what the search answers
 told : (c : tie.After-find-stbl) {r : FoundBody} → c .find-stbl .result ≡ r
@@ -27,21 +21,11 @@ find-stbl-requires c κs = search needs
 enum-known-found : tie.Need-enum-known-found
 enum-known-found c = search needs
 
-add-end : tie.Need-add-end
-add-end c = let found = c .before .before .before in
-    let start = found .before .before .before .before in
-    omega (arith, stbl-within (start .args .s .now) (start .args .track) (told found (c .before .found .given .1)), start .good .0)
-
-sub-cue-listing : tie.Need-sub-cue-listing
-sub-cue-listing c = search needs
-
-part-cue-listing-start : tie.Need-part-cue-listing-start
-part-cue-listing-start c = search needs
-
-part-cue-listing-end : tie.Need-part-cue-listing-end
-part-cue-listing-end c = let found = c .before .before .before in
-    let start = found .before .before .before .before in
-    stbl-within (start .args .s .now) (start .args .track) (told found (c .before .found .given .1))
+bytes-at-requires : tie.Need-bytes-at-requires
+bytes-at-requires c κs =
+    let found = c .before .before .before in
+    let a = found .before .before .before .before .args in
+    stbl-within (a .s .now) (a .track) (told found (c .before .found .given .1))
 
 cue-listing-requires : tie.Need-cue-listing-requires
 cue-listing-requires c κs = search needs
@@ -56,13 +40,13 @@ same-length-2 : tie.Need-same-length-2
 same-length-2 c = search needs
 
 returns : tie.Need-returns
-returns c = let listed = c .before .before .before .before in
-    let known = listed .before .before .before .before in
-    let found = known .before .before .before in
+returns c =
+    let listed = c .before .before .before .before in
+    let part = listed .before .before .before in
+    let found = part .before .before .before .before in
     let a = found .before .before .before .before .args in
-    let body = known .before .found .given .0 .0 in
-    rw (file-found (a .s .now) (a .track) (a .grouping-type) _ _ (told found (known .before .found .given .1)))
-    (rw (cut (body .place) (body .size)) at (listed .cue-listing .ensures))
+    rw (file-found (a .s .now) (a .track) (a .grouping-type) _ _ (told found (part .before .before .found .given .1)))
+    (rw (part .bytes-at .ensures .bytes) at (listed .cue-listing .ensures))
 
 returns-2 : tie.Need-returns-2
 returns-2 c = let found = c .before .before .before in
@@ -75,10 +59,7 @@ file-cue-listing-spec =
     (tie.spec
     find-stbl-requires
     enum-known-found
-    add-end
-    sub-cue-listing
-    part-cue-listing-start
-    part-cue-listing-end
+    bytes-at-requires
     cue-listing-requires
     enum-known-found-2
     same-length

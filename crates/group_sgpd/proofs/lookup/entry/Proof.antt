@@ -4,8 +4,7 @@ use Rattle.group_sgpd.specs.Told.{toldEntry}
 use Rattle.group_sgpd.specs.Sgpd.{entryAt}
 use Rattle.base_fields.specs.Answer.{given}
 use lib.ListN.{length}
-use Prim.Native.Nat.{_+_, _-_, _≤_}
-use native.Mathlib.Omega.{arith}
+use Prim.Native.Nat.{_+_, _≤_}
 use mathlib.Core.Path.{_≡_, refl, ap, sym, _∙_}
 use borrow.Author.Needs.{needs}
 use Rattle.group_sgpd.proofs.lookup.entry.Statement.{statement}
@@ -24,57 +23,33 @@ found c = sym (ap toldEntry (sym (c .at .given .1)) ∙ c .before .before .entry
 inside : (c : tie.After-at) → c .at .given .0 .0 + c .at .given .0 .1 .0 ≤ length (c .before .before .before .before .args .s .now)
 inside c = let a = c .before .before .before .before .args in entry-inside (a .s .now) (a .index .0) (found c)
 
-add-end : tie.Need-add-end
-add-end c = omega (arith, inside (c .before))
-
-sub-result : tie.Need-sub-result
-sub-result c = search needs
-
-part-result-start : tie.Need-part-result-start
-part-result-start c = search needs
-
-part-result-end : tie.Need-part-result-end
-part-result-end c = omega (arith, inside (c .before))
+bytes-at-requires : tie.Need-bytes-at-requires
+bytes-at-requires c κs = inside (c .before)
 
 enum-told : tie.Need-enum-told
 enum-told c = search needs
 
-sub-result-2 : tie.Need-sub-result-2
-sub-result-2 c = search needs
-
-part-result-start-2 : tie.Need-part-result-start-2
-part-result-start-2 c = search needs
-
-part-result-end-2 : tie.Need-part-result-end-2
-part-result-end-2 c = search needs
+bytes-at-requires-2 : tie.Need-bytes-at-requires-2
+bytes-at-requires-2 c κs = search needs
 
 enum-told-2 : tie.Need-enum-told-2
 enum-told-2 c = search needs
 
-sub-result-3 : tie.Need-sub-result-3
-sub-result-3 c = search needs
-
-part-result-start-3 : tie.Need-part-result-start-3
-part-result-start-3 c = search needs
-
-part-result-end-3 : tie.Need-part-result-end-3
-part-result-end-3 c = search needs
+bytes-at-requires-3 : tie.Need-bytes-at-requires-3
+bytes-at-requires-3 c κs = search needs
 
 returns : tie.Need-returns
-returns c =
-    let d = c .before .before in
-    let e : d .at .given .0 .0 + d .at .given .0 .1 .0 - d .at .given .0 .0 ≡ d .at .given .0 .1 .0 = omega arith in
-    rw (found d, e) (record { bytes = refl; place = (refl, refl) })
+returns c = rw (found (c .before .before)) (c .bytes-at .ensures)
 
 returns-2 : tie.Need-returns-2
 returns-2 c =
-    let called = c .before .before .before in
-    rw (← (ap toldEntry (sym (c .before .enum-told .given .1)) ∙ called .entry-place .ensures)) (record { bytes = refl; place = tt })
+    let told = ap toldEntry (sym (c .before .enum-told .given .1)) ∙ c .before .before .before .entry-place .ensures in
+    rw (← told) (record { bytes = c .bytes-at2 .ensures .bytes; place = tt })
 
 returns-3 : tie.Need-returns-3
 returns-3 c =
-    let called = c .before .before .before in
-    rw (← (ap toldEntry (sym (c .before .enum-told2 .given .1)) ∙ called .entry-place .ensures)) (record { bytes = refl; place = tt })
+    let told = ap toldEntry (sym (c .before .enum-told2 .given .1)) ∙ c .before .before .before .entry-place .ensures in
+    rw (← told) (record { bytes = c .bytes-at3 .ensures .bytes; place = tt })
 
 pub entry-spec : {M : Type 1} → statement M
 entry-spec =
@@ -82,18 +57,11 @@ entry-spec =
     (tie.spec
     entry-place-requires
     enum-known-at
-    add-end
-    sub-result
-    part-result-start
-    part-result-end
+    bytes-at-requires
     enum-told
-    sub-result-2
-    part-result-start-2
-    part-result-end-2
+    bytes-at-requires-2
     enum-told-2
-    sub-result-3
-    part-result-start-3
-    part-result-end-3
+    bytes-at-requires-3
     returns
     returns-2
     returns-3)

@@ -1,8 +1,7 @@
 -- An entry passes where its layout's decoder gives a value.
 use mathlib.Core.Path.{_≡_, ap, sym, subst, _∙_}
 use mathlib.Core.List.{List}
-use Prim.Native.Nat.{ℕ, _+_, _-_, _≤_}
-use native.Mathlib.Omega.{arith}
+use Prim.Native.Nat.{ℕ, _+_, _≤_}
 use lib.ListN.{length}
 use Rattle.base_fields.specs.Answer.{Answer, given, andThen}
 use Rattle.base_fields.specs.Span.{bytesAt}
@@ -30,9 +29,6 @@ module _ (c : tie.After-meaning) where
   inside : place + size ≤ length (start .args .s .now)
   inside = subst (λ (m : MeaningAt). InsideAt (start .args .s .now) m) (c .meaning .given .1) (start .pre .1)
 
-  cut : place + size - place ≡ size
-  cut = omega arith
-
   abbrev entry : List ℕ
   entry = bytesAt (start .args .s .now) (record { place = place; size = size })
 
@@ -45,7 +41,7 @@ module _ (c : tie.After-front-of) where
   t = start here .args .grouping-type
 
   fronted : toldFrontSize (c .front-of .result) ≡ andThen (decodeAs (layoutOf t) (entry here)) (λ v. given (frontSize (layoutOf t) (entry here)))
-  fronted = rw (c .before .before .layout-of .ensures, cut here) at (c .front-of .ensures)
+  fronted = rw (c .before .before .layout-of .ensures, c .before .bytes-at .ensures .bytes) at (c .front-of .ensures)
 
   abbrev Answers : Front → Type 0
   Answers r = _≡_ {A = Answer Unit} (andThen (toldFrontSize r) (λ n. given tt)) (andThen (meantAt t (start here .args .s .now) (start here .args .meaning)) (λ v. given tt))
@@ -65,25 +61,16 @@ enum-told-2 c = search needs
 enum-known-meaning : tie.Need-enum-known-meaning
 enum-known-meaning c = search needs
 
-add-end : tie.Need-add-end
-add-end c = omega (arith, inside (c .before))
-
 layout-of-requires : tie.Need-layout-of-requires
 layout-of-requires c κs = search needs
 
-sub-front-of : tie.Need-sub-front-of
-sub-front-of c = search needs
-
-part-front-of-start : tie.Need-part-front-of-start
-part-front-of-start c = search needs
-
-part-front-of-end : tie.Need-part-front-of-end
-part-front-of-end c = omega (arith, inside (c .before .before))
+bytes-at-requires : tie.Need-bytes-at-requires
+bytes-at-requires c κs = inside (c .before .before)
 
 front-of-requires : tie.Need-front-of-requires
 front-of-requires c κs =
     let m = c .before .before .before in
-    rw (cut m) (part-short (start m .args .s .now) (record { place = place m; size = size m }) (start m .pre .0))
+    rw (c .bytes-at .ensures .bytes) (part-short (start m .args .s .now) (record { place = place m; size = size m }) (start m .pre .0))
 
 enum-told-3 : tie.Need-enum-told-3
 enum-told-3 c = search needs
@@ -110,11 +97,8 @@ check-meaning-spec =
     enum-told
     enum-told-2
     enum-known-meaning
-    add-end
     layout-of-requires
-    sub-front-of
-    part-front-of-start
-    part-front-of-end
+    bytes-at-requires
     front-of-requires
     enum-told-3
     enum-known-n

@@ -1,8 +1,7 @@
 -- One place and length; or what decode_alike answers, which is no refusal where both entries decode.
 use mathlib.Core.Path.{_≡_, refl, ap, sym, _∙_}
 use mathlib.Core.List.{List}
-use Prim.Native.Nat.{ℕ, _+_, _-_}
-use native.Mathlib.Omega.{arith}
+use Prim.Native.Nat.{ℕ}
 use Rattle.base_fields.specs.Span.{bytesAt}
 use Rattle.group_alike.specs.Alike.{toldAlike, alike}
 use Rattle.group_alike.specs.declared.Alike.{Alike}
@@ -23,38 +22,17 @@ module _ (c : tie.After-decode-alike) where
   other = bytesAt (start .args .s .now) (record { place = start .args .other-place; size = start .args .other-size })
 
   answered : (r : Alike) → c .decode-alike .result ≡ r → toldAlike r ≡ alike (start .args .grouping-type) one other
-  answered r e =
-      let d : start .args .place + start .args .size - start .args .place ≡ start .args .size = omega arith in
-      let f : start .args .other-place + start .args .other-size - start .args .other-place ≡ start .args .other-size = omega arith in
-      ap toldAlike (sym e) ∙ (rw (d, f) at (c .decode-alike .ensures))
+  answered r e = ap toldAlike (sym e) ∙ rw (c .before .before .bytes-at .ensures .bytes, c .before .bytes-at2 .ensures .bytes) at (c .decode-alike .ensures)
 
 returns : tie.Need-returns
 returns c =
     are-like _ _ _ _ (rw (c .before .if1 .taken, c .if2 .taken) refl)
 
-add-end : tie.Need-add-end
-add-end c = search needs
+bytes-at-requires : tie.Need-bytes-at-requires
+bytes-at-requires c κs = search needs
 
-add-other-end : tie.Need-add-other-end
-add-other-end c = search needs
-
-sub-decode-alike : tie.Need-sub-decode-alike
-sub-decode-alike c = search needs
-
-part-decode-alike-start : tie.Need-part-decode-alike-start
-part-decode-alike-start c = search needs
-
-part-decode-alike-end : tie.Need-part-decode-alike-end
-part-decode-alike-end c = search needs
-
-sub-decode-alike-2 : tie.Need-sub-decode-alike-2
-sub-decode-alike-2 c = search needs
-
-part-decode-alike-start-2 : tie.Need-part-decode-alike-start-2
-part-decode-alike-start-2 c = search needs
-
-part-decode-alike-end-2 : tie.Need-part-decode-alike-end-2
-part-decode-alike-end-2 c = search needs
+bytes-at-requires-2 : tie.Need-bytes-at-requires-2
+bytes-at-requires-2 c κs = search needs
 
 decode-alike-requires : tie.Need-decode-alike-requires
 decode-alike-requires c κs = search needs
@@ -91,14 +69,8 @@ entries-like-spec =
     tie.close
     (tie.spec
     returns
-    add-end
-    add-other-end
-    sub-decode-alike
-    part-decode-alike-start
-    part-decode-alike-end
-    sub-decode-alike-2
-    part-decode-alike-start-2
-    part-decode-alike-end-2
+    bytes-at-requires
+    bytes-at-requires-2
     decode-alike-requires
     enum-told
     enum-told-2

@@ -1,8 +1,7 @@
 -- Index 0 and an index past the entries have none; else by the entry.
 use mathlib.Core.Path.{_≡_, refl, ap, sym, subst, _∙_}
 use mathlib.Core.List.{List}
-use Prim.Native.Nat.{ℕ, _+_, _-_, _≤_}
-use native.Mathlib.Omega.{arith}
+use Prim.Native.Nat.{ℕ, _+_, _≤_}
 use lib.ListN.{length}
 use Rattle.base_fields.specs.Span.{bytesAt}
 use Rattle.base_fields.specs.Answer.{Answer, given, andThen}
@@ -31,9 +30,6 @@ module _ (c : tie.After-meaning) where
   inside : place + size ≤ length (start .args .s .now)
   inside = subst (λ (m : MeaningAt). InsideAt (start .args .s .now) m) (c .meaning .given .1) (start .pre .1)
 
-  cut : place + size - place ≡ size
-  cut = omega arith
-
   abbrev entry : List ℕ
   entry = bytesAt (start .args .s .now) (record { place = place; size = size })
 
@@ -46,25 +42,16 @@ enum-told-2 c = search needs
 enum-known-meaning : tie.Need-enum-known-meaning
 enum-known-meaning c = search needs
 
-add-end : tie.Need-add-end
-add-end c = omega (arith, inside (c .before))
-
 layout-of-requires : tie.Need-layout-of-requires
 layout-of-requires c κs = search needs
 
-sub-entry-distance : tie.Need-sub-entry-distance
-sub-entry-distance c = search needs
-
-part-entry-distance-start : tie.Need-part-entry-distance-start
-part-entry-distance-start c = search needs
-
-part-entry-distance-end : tie.Need-part-entry-distance-end
-part-entry-distance-end c = omega (arith, inside (c .before .before))
+bytes-at-requires : tie.Need-bytes-at-requires
+bytes-at-requires c κs = inside (c .before .before)
 
 entry-distance-requires : tie.Need-entry-distance-requires
 entry-distance-requires c κs =
     let m = c .before .before .before in
-    rw (cut m) (part-short (start m .args .s .now) (record { place = place m; size = size m }) (start m .pre .0))
+    rw (c .bytes-at .ensures .bytes) (part-short (start m .args .s .now) (record { place = place m; size = size m }) (start m .pre .0))
 
 returns : tie.Need-returns
 returns c = rw (c .enum-told .given .1) refl
@@ -77,7 +64,7 @@ unfolding decode
 returns-3 c =
     let m = c .before .before .before .before in
     let t = start m .args .grouping-type in
-    let told = rw (c .before .before .layout-of .ensures, cut m) at (c .entry-distance .ensures) in
+    let told = rw (c .before .before .layout-of .ensures, c .before .bytes-at .ensures .bytes) at (c .entry-distance .ensures) in
     told ∙ sym (ap (λ (x : MeaningAt). andThen (meantAt t (start m .args .s .now) x) (λ v. given (distanceOfMeaning v))) (m .meaning .given .1)
     ∙ andThen-assoc (decodeAs (layoutOf t) (entry m)) (λ v. given (value v)) (λ v. given (distanceOfMeaning v)))
 
@@ -88,11 +75,8 @@ meaning-distance-spec =
     enum-told
     enum-told-2
     enum-known-meaning
-    add-end
     layout-of-requires
-    sub-entry-distance
-    part-entry-distance-start
-    part-entry-distance-end
+    bytes-at-requires
     entry-distance-requires
     returns
     returns-2
