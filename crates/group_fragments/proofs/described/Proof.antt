@@ -6,7 +6,7 @@ use Rattle.group_fragments.specs.Fragments.{describedAt}
 use Rattle.base_fields.specs.Answer.{given}
 use Prim.Native.Nat.{_+_, _≤_}
 use mathlib.Core.Bool.{true, false}
-use mathlib.Core.Path.{_≡_, refl, ap, sym, _∙_}
+use mathlib.Core.Path.{_≡_, ap, sym, _∙_}
 use borrow.Author.Needs.{needs}
 use Rattle.group_fragments.proofs.described.Statement.{statement}
 use Rattle.group_fragments.proofs.described.Tie as tie

@@ -5,7 +5,7 @@ use Rattle.atom_path.proofs.Bodies.{stbl-within}
 use Rattle.atom_path.specs.declared.FoundBody.{FoundBody}
 use Rattle.atom_path.specs.Told.{toldBody}
 use Rattle.atom_path.specs.Path.{stblAt}
-use mathlib.Core.Path.{_≡_, refl, ap, sym, _∙_}
+use mathlib.Core.Path.{_≡_, ap, sym, _∙_}
 use borrow.Author.Needs.{needs}
 use Rattle.listing_file.proofs.file_cue_listing.Statement.{statement}
 use Rattle.listing_file.proofs.file_cue_listing.Tie as tie

@@ -1,5 +1,5 @@
 -- The walk's refusals; else the payloads that it found stand in the body, and the answer is that of `start_in`.
-use mathlib.Core.Path.{_≡_, refl, ap, sym, _∙_}
+use mathlib.Core.Path.{_≡_}
 use borrow.Author.Needs.{needs}
 use Rattle.base_fields.specs.Answer.{given}
 use Rattle.listing_spec.specs.Walk.{sources}

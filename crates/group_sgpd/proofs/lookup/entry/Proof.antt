@@ -5,7 +5,7 @@ use Rattle.group_sgpd.specs.Sgpd.{entryAt}
 use Rattle.base_fields.specs.Answer.{given}
 use lib.ListN.{length}
 use Prim.Native.Nat.{_+_, _≤_}
-use mathlib.Core.Path.{_≡_, refl, ap, sym, _∙_}
+use mathlib.Core.Path.{_≡_, ap, sym, _∙_}
 use borrow.Author.Needs.{needs}
 use Rattle.group_sgpd.proofs.lookup.entry.Statement.{statement}
 use Rattle.group_sgpd.proofs.lookup.entry.Tie as tie

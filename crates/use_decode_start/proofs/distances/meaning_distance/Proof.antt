@@ -1,17 +1,17 @@
 -- Index 0 and an index past the entries have none; else by the entry.
-use mathlib.Core.Path.{_≡_, refl, ap, sym, subst, _∙_}
+use mathlib.Core.Path.{refl, ap, sym, subst, _∙_}
 use mathlib.Core.List.{List}
 use Prim.Native.Nat.{ℕ, _+_, _≤_}
 use lib.ListN.{length}
 use Rattle.base_fields.specs.Span.{bytesAt}
-use Rattle.base_fields.specs.Answer.{Answer, given, andThen}
+use Rattle.base_fields.specs.Answer.{given, andThen}
 use Rattle.base_fields.proofs.Answers.{andThen-assoc}
 use Rattle.group_entries.specs.Layout.{decode, layoutOf, decodeAs}
 use Rattle.listing_theorem.specs.Meaning.{value}
 use Rattle.listing_meanings.specs.Meant.{meantAt, InsideAt}
 use Rattle.listing_meanings.specs.declared.MeaningAt.{MeaningAt}
 use Rattle.listing_meanings.proofs.Pairs.{part-short}
-use Rattle.use_decode_start.specs.Start.{distanceOfValue, distanceOfMeaning}
+use Rattle.use_decode_start.specs.Start.{distanceOfMeaning}
 use borrow.Author.Needs.{needs}
 use Rattle.use_decode_start.proofs.distances.meaning_distance.Statement.{statement}
 use Rattle.use_decode_start.proofs.distances.meaning_distance.Tie as tie

@@ -7,16 +7,16 @@ use native.Mathlib.Omega.{arith}
 use borrow.Author.Needs.{needs}
 use lib.IntN.{ℤ}
 use lib.ListN.{length, getD, take}
-use Rattle.base_fields.specs.Answer.{Answer, given, refused, andThen}
+use Rattle.base_fields.specs.Answer.{Answer}
 use Rattle.table_patterns.specs.Place.{patternIn}
 use Rattle.table_patterns.specs.declared.PatternAt.{PatternAt}
 use Rattle.table_patterns.proofs.Indices.{indices-length}
 use Rattle.table_views.specs.Used.{used, firstRefusal}
-use Rattle.table_views.specs.Search.{larger, bestAt, bestFrom}
+use Rattle.table_views.specs.Search.{larger, bestAt}
 use Rattle.listing_theorem.specs.Meaning.{Meaning}
 use Rattle.listing_meanings.specs.Meant.{meaningIn}
 use Rattle.listing_meanings.proofs.Checking.{PassedBefore, passed-none, refused-here, used-taken}
-use Rattle.use_decode_start.specs.Inner.{toldLatest, toldDecoded, distanceIn}
+use Rattle.use_decode_start.specs.Inner.{toldLatest, distanceIn}
 use Rattle.use_decode_start.proofs.Entries.{distance-given, distance-refused}
 use Rattle.use_decode_start.proofs.Bests.{larger-none, larger-assoc, larger-told, bestBehind, best-step, best-end, passed-used}
 use Rattle.use_decode_start.proofs.search.search_pattern.Statement.{statement}
