@@ -10,7 +10,7 @@ use super::NextChild;
 use super::ParentEnd;
 use super::ReadHeader;
 use super::TotalSize;
-use super::header::header_by_size;
+use super::header::header_within;
 use base_fields::INPUT_LIMIT;
 
 // A child that ends at `next`, in a container that ends at `end`.
@@ -44,21 +44,12 @@ fn child_of(h: AtomHeader, at: u64, end: ParentEnd) -> NextChild
     }
 }
 
-// The child at a place that is before its parent's end, if that is known, of an input within the limit. It has the tests of `read_atom_header` but
-// 55, which its caller has made; so the compiler puts the header's reading in place of a call.
+// The child at a place that is before its parent's end, if that is known, of an input within the limit.
 fn child_at(s: &[u8], at: u64, end: ParentEnd) -> NextChild
     requires { ⌜ length (now s) ≤ inputLimit ⌝ }
     ensures { λ r. ⌜ toldChild r ≡ andThen (headerAt (now (s .entry)) at) (λ h. andThen (endOf at (h .size) (parentEnd end)) (inside (parentEnd end) h)) ⌝ }
 {
-    let n = s.len();
-    if (n as u64) <= at {
-        return NextChild::Done;
-    }
-    let place = at as usize;
-    if n < place + 8 {
-        return NextChild::Refused(1);
-    }
-    let read = header_by_size(s, place, base_fields::read_u32(s, place));
+    let read = header_within(s, at);
     let ReadHeader::Header(h) = read else {
         match read {
             ReadHeader::Refused(n) => return NextChild::Refused(n),

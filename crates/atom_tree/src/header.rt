@@ -59,6 +59,23 @@ fn extended_header(s: &[u8], at: usize, fourcc: u32) -> ReadHeader
     ReadHeader::Header(header_of(fourcc, at, TotalSize::Bytes(size), 16))
 }
 
+// The header at a place of an input within the limit; Nothing where no byte stands there. It has the tests of `read_atom_header` but 55, for the walker, which has made that
+// one: with a reader of its own the compiler puts the header's reading in place of a call.
+pub fn header_within(s: &[u8], at: u64) -> ReadHeader
+    requires { ⌜ length (now s) ≤ inputLimit ⌝ }
+    ensures { λ r. ⌜ toldHeader r ≡ headerAt (now (s .entry)) at ⌝ }
+{
+    let len = s.len();
+    if (len as u64) <= at {
+        return ReadHeader::Nothing;
+    }
+    let place = at as usize;
+    if len < place + 8 {
+        return ReadHeader::Refused(1);
+    }
+    header_by_size(s, place, base_fields::read_u32(s, place))
+}
+
 // The header at a place; Nothing where no byte stands there.
 pub fn read_atom_header(s: &[u8], at: u64) -> ReadHeader
     ensures { λ r. ⌜ toldHeader r ≡ headerAt (now (s .entry)) at ⌝ }
