@@ -322,6 +322,11 @@ static void measured(void) {
     MEASURE("entry_places, all 1,000, lengths", 10, film_entry_places(input, (film_size)(end - input), rows, 4096, out));
     MEASURE("described_place, the fragment's last, lengths", 10,
             film_described_place(input, (film_size)(end - input), input, (film_size)(end - input), 0x80000000u | 1000, out));
+    end = put(word(put(input, 0, 4), "abcd"), 1000, 4);
+    for (unsigned k = 0; k < 500; k++) end = put(end, 0, 4);
+    MEASURE("parse_sgpd, 1,000 entries, shares", 10, film_parse_sgpd(input, (film_size)(end - input), out));
+    MEASURE("entry_place, the last, shares", 10, film_entry_place(input, (film_size)(end - input), 1000, out));
+    MEASURE("entry_places, all 1,000, shares", 10, film_entry_places(input, (film_size)(end - input), rows, 4096, out));
     MEASURE("split_csgp_index", 1000, (film_split_csgp_index(0x80000007u, out), 0));
     MEASURE("rate_of_point", 1000, film_rate_of_point(4000000000u, 75));
 
@@ -366,7 +371,7 @@ static void measured(void) {
     MEASURE("find_stbl, the same in a film", 100, film_find_stbl(input, body + 40, 0, out));
     MEASURE("file_cue_listing, the same in a film", 1, film_file_cue_listing(input, body + 40, 0, 0x726f6c6c, rows, 4096, listing, sizeof listing, out));
 
-    /* the costliest body that is known, `empty-far` of bench/src/listing.rs: 3,721 empty entries with lengths of their own, two of each sixteenth looked up in turn by 2,048 rows */
+    /* `empty-far` of bench/src/listing.rs: 3,721 empty entries with lengths of their own, two of each sixteenth looked up in turn by 2,048 rows */
     const unsigned entries = 3721, apart = 233, turns = 683;
     end = put(put(put(word(put(input + 8, 2 | 3 << 2 | 3 << 4, 4), "abcd"), 1, 4), turns, 4), 2048, 4);
     for (unsigned k = 0; k < turns; k++) {
@@ -380,6 +385,28 @@ static void measured(void) {
     word(put(groups, (uint64_t)(end - groups), 4), "sgpd");
     MEASURE("cue_listing, empty-far", 1, film_cue_listing(input, (film_size)(end - input), 0x61626364, rows, 4096, listing, sizeof listing, out));
     if (out[0] != 10 || out[1] != 2048) text("WRONG\n");
+
+    /* the costliest body that is known, `empty-far-8` of the same file: 3,571 such entries, eighteen neighbours of them looked up in turn by 2,048 rows */
+    end = put(put(put(word(put(input + 8, 1 | 3 << 2 | 3 << 4, 4), "abcd"), 1, 4), 2048, 4), 2048, 4);
+    for (unsigned k = 0; k < 2048; k++) end = put(end, 224 - k % 18, 1);
+    word(put(input, (uint64_t)(end - input), 4), "csgp");
+    groups = end;
+    end = put(put(word(put(end + 8, 0x01000000, 4), "abcd"), 0, 4), 3571, 4);
+    for (unsigned k = 0; k < 3571; k++) end = put(end, 0, 4);
+    word(put(groups, (uint64_t)(end - groups), 4), "sgpd");
+    MEASURE("cue_listing, empty-far-8", 1, film_cue_listing(input, (film_size)(end - input), 0x61626364, rows, 4096, listing, sizeof listing, out));
+    if (out[0] != 10 || out[1] != 2048) text("WRONG\n");
+
+    /* `shared-far` of the same file: 6,120 entries of a byte that share 12,239 */
+    end = put(put(put(word(put(input + 8, 2 | 3 << 2 | 3 << 4, 4), "abcd"), 1, 4), 2048, 4), 2048, 4);
+    for (unsigned k = 0; k < 2048; k++) end = put(end, (k % 15 + 1) * 383 - k / 15 % 2, 2);
+    word(put(input, (uint64_t)(end - input), 4), "csgp");
+    groups = end;
+    end = put(word(put(end + 8, 0, 4), "abcd"), 6120, 4);
+    for (unsigned k = 0; k < 12239; k++) end = put(end, 0, 1);
+    word(put(groups, (uint64_t)(end - groups), 4), "sgpd");
+    MEASURE("cue_listing, shared-far", 1, film_cue_listing(input, (film_size)(end - input), 0x61626364, rows, 4096, listing, sizeof listing, out));
+    if (out[0] != 11 || out[1] != 2048) text("WRONG\n");
 }
 
 void reset(void) {

@@ -122,6 +122,23 @@ fn far(kind: &[u8; 4], entry: &[u8]) -> Vec<u8> {
     body(&csgp(kind, 2, &[(ROWS, turns)]), &sgpd_of(kind, &vec![entry.to_vec(); count]))
 }
 
+/// The same with indices of 8 bits: eighteen neighbours in turn, the last of them the farthest behind a landmark that 8 bits reach.
+fn far_narrow(kind: &[u8; 4]) -> Vec<u8> {
+    let count = (BODY as u32 - 52 - ROWS) / 4;
+    let apart = count / 16 + 1;
+    let turns = (0..ROWS).map(|k| 255 / apart * apart - k % 18).collect();
+    body(&csgp(kind, 1, &[(ROWS, turns)]), &sgpd_of(kind, &vec![vec![]; count as usize]))
+}
+
+/// Version 0 of a type without a length: so many entries of one byte that one byte more would be two, two from each sixteenth as above.
+fn far_shared(kind: &[u8; 4]) -> Vec<u8> {
+    let count = (BODY as u32 - 47 - 2 * ROWS) / 2;
+    let apart = count / 16 + 1;
+    let turns = (0..ROWS).map(|k| (k % 15 + 1) * apart - k / 15 % 2).collect();
+    let entries = [&[0; 4], &kind[..], &count.to_be_bytes(), &vec![0; 2 * count as usize - 1]].concat();
+    body(&csgp(kind, 2, &[(ROWS, turns)]), &entries)
+}
+
 /// As many patterns of one sample as fit, five after the other with one index, of 8 equal entries.
 fn short_patterns(kind: &[u8; 4]) -> Vec<u8> {
     let count = 5 * ROWS - 4;
@@ -130,7 +147,7 @@ fn short_patterns(kind: &[u8; 4]) -> Vec<u8> {
     body(&table, &sgpd_of(kind, &vec![vec![0; (BODY - table.len() - 64) / 8]; 8]))
 }
 
-const HOSTILE: [&str; 29] = [
+const HOSTILE: [&str; 31] = [
     "raw-2",
     "raw-2-unlike",
     "raw-3",
@@ -157,6 +174,8 @@ const HOSTILE: [&str; 29] = [
     "tele-far",
     "sap-far",
     "rap-far",
+    "empty-far-8",
+    "shared-far",
     "patterns-10236",
     "odd-of-million",
     "odd-of-million-unlike",
@@ -204,6 +223,8 @@ fn hostile_body(name: &str) -> ([u8; 4], Vec<u8>) {
         "tele-far" => (*b"tele", far(b"tele", &[0x80])),
         "sap-far" => (*b"sap ", far(b"sap ", &[0x80])),
         "rap-far" => (*b"rap ", far(b"rap ", &[0x80])),
+        "empty-far-8" => (*b"abcd", far_narrow(b"abcd")),
+        "shared-far" => (*b"abcd", far_shared(b"abcd")),
         "patterns-10236" => (*b"abcd", short_patterns(b"abcd")),
         "odd-of-million" => (*b"roll", odd_one_out(true)),
         "odd-of-million-unlike" => (*b"roll", odd_one_out(false)),

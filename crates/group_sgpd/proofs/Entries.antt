@@ -87,6 +87,10 @@ module _ (s : List ℕ) where
   after-add (suc m) n p =
       rw suc-add (andThen-same (spanAt s p) _ _ (λ e g. after-add m n (e .place + e .size)) ∙ sym (andThen-assoc (spanAt s p) _ _))
 
+  -- some of the entries, then the others
+  pub after-some : (m n p : ℕ) {q : ℕ} → m ≤ n → after m s p ≡ given q → after n s p ≡ after (n - m) s q
+  after-some m n p h g = let e : m + (n - m) ≡ n = omega arith in (rw e at (after-add m (n - m) p)) ∙ rw g refl
+
   -- the entries are read exactly where the place behind them is reached, with the same refusals
   pub spans-after : {B : Type 0} (n p : ℕ) (y : Answer B) → andThen (spans n s p) (λ es. y) ≡ andThen (after n s p) (λ q. y)
   unfolding spans after

@@ -1,5 +1,6 @@
 pub mod Onward
 pub mod Entries
+pub mod Shares
 pub mod Heads
 pub mod Marked
 pub mod Placed

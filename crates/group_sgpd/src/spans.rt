@@ -4,6 +4,7 @@ ghost use Prim.Native.Nat.{_+_, _≤_, _<_};
 ghost use lib.ListN.{length};
 ghost use Rattle.group_sgpd.specs.Sgpd.{implicitLength, entryCount, spanAt, entryCountPlace};
 ghost use Rattle.group_sgpd.specs.Head.{lengthsBy, toldSpan, whole, after, toldMove, HeadOf, Among};
+ghost use Rattle.group_sgpd.specs.declared.Lengths.the-variants.{Prefixed, Shared};
 use super::Lengths;
 use super::Moved;
 use super::SgpdHead;
@@ -67,33 +68,56 @@ pub(crate) fn span_at(s: &[u8], lengths: Lengths, count: u32, at: usize) -> Span
             whole_entry(s, at + 4, base_fields::read_u32(s, at) as usize)
         }
         Lengths::Shared => {
-            let size = left / (count as usize);
+            let size = left as u32 / count;
             if size == 0 {
                 return Spanned::Refused(34);
             }
-            whole_entry(s, at, size)
+            whole_entry(s, at, size as usize)
         }
     }
 }
 
-// The place behind n entries, one by one: each takes a byte at least, so the payload's end ends the loop.
-fn skip_each(s: &[u8], lengths: Lengths, count: u32, at: usize, n: u32) -> Moved
-    requires { ⌜ Among (now s) lengths count at ⌝ }
+// The place behind n entries, each with its length before it. Bytes are counted in 32 bits, which a controller handles at once.
+fn skip_prefixed(s: &[u8], at: usize, n: u32) -> Moved
+    requires { ⌜ Among (now s) Prefixed (entryCount (now s)) at ⌝ }
+    ensures { λ r. ⌜ toldMove r ≡ after n (now (s .entry)) at ⌝ }
+{
+    let mut bytes = (s.len() - at) as u32;
+    let mut left = n;
+    while 0 < left {
+        if bytes < 4 {
+            return Moved::Refused(33);
+        }
+        let size = base_fields::read_u32(s, s.len() - bytes as usize);
+        if bytes - 4 < size {
+            return Moved::Refused(35);
+        }
+        bytes = bytes - 4 - size;
+        left = left - 1;
+    }
+    Moved::At(s.len() - bytes as usize)
+}
+
+// The place behind n entries that share the bytes. A share stays for as long as the division's rest pays for the entries before: those
+// entries are passed at once, so there are as many steps as different shares.
+fn skip_shared(s: &[u8], count: u32, at: usize, n: u32) -> Moved
+    requires { ⌜ Among (now s) Shared count at ⌝ }
     requires { ⌜ n ≤ count ⌝ }
     ensures { λ r. ⌜ toldMove r ≡ after n (now (s .entry)) at ⌝ }
 {
-    let mut p = at;
+    let mut bytes = (s.len() - at) as u32;
     let mut left = n;
     while 0 < left {
-        match span_at(s, lengths, count, p) {
-            Spanned::Entry(place, size) => {
-                p = place + size;
-                left = left - 1;
-            }
-            Spanned::Refused(code) => return Moved::Refused(code),
+        let share = bytes / count;
+        if share == 0 {
+            return Moved::Refused(34);
         }
+        let alike = bytes % count / share + 1;
+        let passed = if left < alike { left } else { alike };
+        bytes = bytes - passed * share;
+        left = left - passed;
     }
-    Moved::At(p)
+    Moved::At(s.len() - bytes as usize)
 }
 
 // The place behind n entries; a product where they have one length.
@@ -110,8 +134,8 @@ pub(crate) fn skip(s: &[u8], lengths: Lengths, count: u32, at: usize, n: u32) ->
             }
             Moved::At(at + size)
         }
-        Lengths::Prefixed => skip_each(s, lengths, count, at, n),
-        Lengths::Shared => skip_each(s, lengths, count, at, n),
+        Lengths::Prefixed => skip_prefixed(s, at, n),
+        Lengths::Shared => skip_shared(s, count, at, n),
     }
 }
 

@@ -1,4 +1,4 @@
--- By what tells the lengths: a product where they are one (`after-fixed`), else one by one.
+-- By what tells the lengths: a product where they are one (`after-fixed`).
 use Rattle.group_sgpd.proofs.Entries.{after-fixed}
 use borrow.Author.Tests.{lt-ltb, le-ltb}
 use lib.ListN.{length}
@@ -40,14 +40,14 @@ add-t9 c = search needs
 enum-told : tie.Need-enum-told
 enum-told c = search needs
 
-skip-each-requires : tie.Need-skip-each-requires
-skip-each-requires c κs = search needs
+skip-prefixed-requires : tie.Need-skip-prefixed-requires
+skip-prefixed-requires c κs = let o = c .before .before .before .pre .0 in rw (← o .count, ← c .enum-told .given .1) o
 
 enum-told-2 : tie.Need-enum-told-2
 enum-told-2 c = search needs
 
-skip-each-requires-2 : tie.Need-skip-each-requires-2
-skip-each-requires-2 c κs = search needs
+skip-shared-requires : tie.Need-skip-shared-requires
+skip-shared-requires c κs = let d = c .before .before .before in (rw (c .enum-told2 .given .1) at (d .pre .0), d .pre .1)
 
 returns-2 : tie.Need-returns-2
 returns-2 c =
@@ -73,9 +73,9 @@ skip-spec =
     returns
     add-t9
     enum-told
-    skip-each-requires
+    skip-prefixed-requires
     enum-told-2
-    skip-each-requires-2
+    skip-shared-requires
     returns-2
     returns-3
     returns-4)

@@ -7,6 +7,7 @@ use lib.ListN.{length}
 use Prim.Native.Nat.{_+_, _<_, _≤_, _-_, _/_}
 use borrow.Author.Tests.{eq-eqb, ne-eqb, lt-ltb, le-ltb}
 use mathlib.Core.Path.{_≡_, sym, _∙_}
+use native.Mathlib.Nat.{div-le-self}
 use native.Mathlib.Omega.{arith}
 use borrow.Author.Needs.{needs}
 use Rattle.group_sgpd.proofs.spans.span_at.Statement.{statement}
@@ -49,6 +50,9 @@ whole-entry-requires-2 c κs = search needs
 enum-told-2 : tie.Need-enum-told-2
 enum-told-2 c = search needs
 
+cast-size : tie.Need-cast-size
+cast-size c = search needs
+
 div-size : tie.Need-div-size
 div-size c = search needs
 
@@ -58,6 +62,11 @@ returns-2 c =
     let s = d .args .s .now in
     let z : eqb ((length s - d .args .at) / entryCount s) 0 ≡ true = rw (← d .pre .0 .count) (eq-eqb _ _ (c .if2 .taken)) in
     sym (spanAt-as s (d .args .at) (d .pre .0 .lengths) (c .before .enum-told2 .given .1) ∙ simp z)
+
+cast-whole-entry-3 : tie.Need-cast-whole-entry-3
+cast-whole-entry-3 c =
+    let a = c .before .before .before .before .args in
+    omega (arith, div-le-self (length (a .s .now) - a .at) (a .count))
 
 whole-entry-requires-3 : tie.Need-whole-entry-requires-3
 whole-entry-requires-3 c κs = search needs
@@ -98,8 +107,10 @@ span-at-spec =
     cast-whole-entry-2
     whole-entry-requires-2
     enum-told-2
+    cast-size
     div-size
     returns-2
+    cast-whole-entry-3
     whole-entry-requires-3
     returns-3
     returns-4
