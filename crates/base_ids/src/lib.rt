@@ -1,7 +1,10 @@
 // What samples and descriptions are counted in (document 01, part 5: neither number may stand in for the other).
 
-// How many samples a row or a pattern covers. The width of every such count and of every sample number is this one.
+// How many samples a row covers. The width of every such count and of every sample number is this one.
 pub type SampleCount = u32;
+
+// How many samples a pattern covers, and a place among them: a field of an atom, at most 32 bits.
+pub type PatternCount = u32;
 
 // The numbers of a run of rows: a sample count and a description index for each row.
 pub type RowNumber = SampleCount;

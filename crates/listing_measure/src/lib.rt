@@ -1,6 +1,6 @@
 // How long the cue listing of a table is (document 01, part 8): found before a byte is stored, or that it passes a limit.
 use base_ids::DescriptionIndex;
-use base_ids::SampleCount;
+use base_ids::PatternCount;
 use group_sgpd::SgpdHead;
 use listing_stretches::Mark;
 use listing_stretches::Passed;
@@ -60,7 +60,7 @@ fn measure_pattern(
 {
     let count = pattern.count;
     let mut here = progress;
-    let mut k: SampleCount = 0;
+    let mut k: PatternCount = 0;
     let first = progress.hand;
     let mut mark = Mark {
         sample: 0,

@@ -5,7 +5,7 @@ mod enter;
 mod periods;
 mod recall;
 
-use base_ids::SampleCount;
+use base_ids::PatternCount;
 pub use ends::begin_listing;
 pub use ends::close_stretch;
 pub use enter::enter_run;
@@ -29,13 +29,13 @@ pub struct Progress {
 
 // What was in hand at a sample of a pattern.
 pub struct Mark {
-    pub sample: SampleCount,
+    pub sample: PatternCount,
     pub hand: Hand,
 }
 
 pub enum Passed {
     // What is in hand, how many samples of the pattern are passed, and the mark.
-    On(Hand, SampleCount, Mark),
+    On(Hand, PatternCount, Mark),
     // The output would pass the limit.
     Over,
 }

@@ -2,7 +2,7 @@
 use super::Hand;
 use super::Mark;
 use super::Passed;
-use base_ids::SampleCount;
+use base_ids::PatternCount;
 ghost use mathlib.Core.Path.{_≡_};
 ghost use Prim.Native.Nat.{_+_, _*_, _≤_, _<_};
 ghost use Rattle.table_runs.specs.Patterns.{coveredLimit};
@@ -12,7 +12,7 @@ ghost use Rattle.listing_stretches.specs.Passed.{GivesRepeated, GivesPas
 fn repeat_periods(
     hand: Hand,
     added: usize,
-    k: SampleCount,
+    k: PatternCount,
     length: u32,
     periods: u32,
     limit: usize,
@@ -52,9 +52,9 @@ fn lengthen(hand: Hand, length: u32, periods: u32) -> Hand
 pub fn pass_periods(
     mark: Mark,
     hand: Hand,
-    k: SampleCount,
+    k: PatternCount,
     length: u32,
-    count: SampleCount,
+    count: PatternCount,
     limit: usize,
 ) -> Passed
     requires { ⌜ (mark .sample ≤ k) × (k ≤ count) × (0 < length) ⌝ }

@@ -9,13 +9,13 @@ ghost use Rattle.base_fields.specs.Answer.{inputLimit};
 ghost use Rattle.base_fields.specs.Number.{fieldBound};
 ghost use Rattle.table_patterns.specs.Place.{indexField, bitCount, patternIn, Stands};
 use base_ids::DescriptionIndex;
-use base_ids::SampleCount;
+use base_ids::PatternCount;
 
 pub struct PatternAt {
     // How many indices it has.
     pub length: u32,
     // How many samples it covers.
-    pub count: SampleCount,
+    pub count: PatternCount,
     // The bits of an index, and the bit place of the first one.
     pub width: u32,
     pub indices: usize,

@@ -8,11 +8,11 @@ ghost use Rattle.table_patterns.specs.Run.{GivesRun, AlikeIndices, alike
 use crate::PatternAt;
 use crate::read_index;
 use base_fields::read_u64;
-use base_ids::SampleCount;
+use base_ids::PatternCount;
 
 // Some samples of one index.
 pub struct Run {
-    pub count: SampleCount,
+    pub count: PatternCount,
     pub index: u32,
 }
 
@@ -104,7 +104,7 @@ fn alike_indices(s: &[u8], width: u32, place: usize, from: u32, end: u32) -> Run
 
 // The next samples of one index, from sample k on. They end with the pattern's period, or, where all of its indices are equal, with the
 // last sample.
-pub fn run_at(s: &[u8], pattern: PatternAt, k: SampleCount) -> Run
+pub fn run_at(s: &[u8], pattern: PatternAt, k: PatternCount) -> Run
     requires { ⌜ (Stands (now s) pattern) × (k < pattern .count) ⌝ }
     ensures { λ r. ⌜ GivesRun (patternIn (now (s .entry)) pattern) k r ⌝ }
 {

@@ -3,17 +3,17 @@ ghost use mathlib.Core.Path.{_≡_};
 ghost use Prim.Native.Nat.{_+_, _*_, _≤_, _<_};
 ghost use Rattle.table_replay.specs.Periods.{Repeats, GivesPassed};
 use crate::enter::Tail;
-use base_ids::SampleCount;
+use base_ids::PatternCount;
 
 // A place in the replay of a pattern: the samples passed, and the rows so far.
 pub struct Mark {
-    pub sample: SampleCount,
+    pub sample: PatternCount,
     pub tail: Tail,
 }
 
 pub enum Passed {
     // the rows, the samples passed, and the next mark
-    On(Tail, SampleCount, Mark),
+    On(Tail, PatternCount, Mark),
     // the periods' rows have no record left
     Full,
 }
@@ -23,10 +23,10 @@ pub enum Passed {
 fn periods_alike(
     mark: Mark,
     tail: Tail,
-    k: SampleCount,
+    k: PatternCount,
     length: u32,
-    count: SampleCount,
-) -> SampleCount
+    count: PatternCount,
+) -> PatternCount
     requires { ⌜ (0 < length) × (k ≤ count) × (k ≡ mark .sample + length) ⌝ }
     ensures { λ r. ⌜ Repeats mark tail k length count r ⌝ }
 {
@@ -51,9 +51,9 @@ fn periods_alike(
 pub fn pass_periods(
     mark: Mark,
     tail: Tail,
-    k: SampleCount,
+    k: PatternCount,
     length: u32,
-    count: SampleCount,
+    count: PatternCount,
     room: usize,
 ) -> Passed
     requires { ⌜ (0 < length) × (k ≤ count) × (mark .sample ≤ k) × (tail .rows ≤ room) ⌝ }

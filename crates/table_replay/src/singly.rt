@@ -8,6 +8,7 @@ ghost use Rattle.table_replay.specs.Within.{Singly, SinglyWritten};
 use crate::enter::Tail;
 use crate::records::put_row;
 use crate::step::ReplayState;
+use base_ids::PatternCount;
 use base_ids::RowNumber;
 use base_ids::SampleCount;
 use table_patterns::PatternAt;
@@ -50,7 +51,7 @@ fn enter_single(tail: Tail, room: usize, index: u32) -> Single
 }
 
 // The last sample of the period that sample k is in, or of the pattern. It has `turn` samples of its period before it.
-fn last_of_period(pattern: PatternAt, k: SampleCount, turn: u32) -> SampleCount
+fn last_of_period(pattern: PatternAt, k: PatternCount, turn: u32) -> PatternCount
     requires { ⌜ (k < pattern .count) × (turn < pattern .length) ⌝ }
     ensures { λ r. ⌜ LastOf (pattern .length) (pattern .count) k turn r ⌝ }
 {

@@ -10,14 +10,14 @@ use crate::enter::enter_run;
 use crate::periods::Mark;
 use crate::periods::Passed;
 use crate::periods::pass_periods;
-use base_ids::SampleCount;
+use base_ids::PatternCount;
 use table_patterns::PatternAt;
 use table_patterns::run::Run;
 
 // The replay within a pattern: the rows so far, the samples passed, and the mark.
 pub struct ReplayState {
     pub tail: Tail,
-    pub sample: SampleCount,
+    pub sample: PatternCount,
     pub mark: Mark,
 }
 

@@ -9,7 +9,7 @@ pub use self::by_pattern::next_pattern;
 pub use self::by_run::first_run;
 pub use self::by_run::next_run;
 use base_ids::DescriptionIndex;
-use base_ids::SampleCount;
+use base_ids::PatternCount;
 use table_csgp_head::CsgpHead;
 use table_csgp_head::PatternsAt;
 use table_csgp_head::ReadCsgp;
@@ -40,12 +40,12 @@ pub enum NextPattern {
 // The patterns ahead, and the samples of the first of them that are passed.
 pub struct RunCursor {
     pub here: PatternsAt,
-    pub sample: SampleCount,
+    pub sample: PatternCount,
 }
 
 pub enum NextRun {
     // Some samples, their index, and the cursor behind them.
-    Run(SampleCount, DescriptionIndex, RunCursor),
+    Run(PatternCount, DescriptionIndex, RunCursor),
     End,
 }
 
