@@ -5,6 +5,9 @@ use group_sgpd::SgpdHead;
 use listing_stretches::begin_listing;
 use listing_stretches::close_stretch;
 use listing_stretches::enter_run;
+use table_rows::record::count_at;
+use table_rows::record::description_at;
+use table_rows::record::record_count;
 ghost use mathlib.Core.Path.{_≡_};
 ghost use Prim.Native.Nat.{_≤_};
 ghost use lib.ListN.{length};
@@ -32,10 +35,11 @@ pub fn write_listing(
 {
     let mut memory: [u32; 16] = [0; 16];
     let mut progress = begin_listing(grouping_type, samples, out);
-    let mut i: usize = 0;
-    while i + 1 < rows.len() {
-        let count = rows[i];
-        let index = DescriptionIndex(rows[i + 1]);
+    let records = record_count(rows);
+    let mut k: usize = 0;
+    while k < records {
+        let count = count_at(rows, k);
+        let index = DescriptionIndex(description_at(rows, k));
         if 0 < count {
             progress = enter_run(
                 grouping_type,
@@ -49,7 +53,7 @@ pub fn write_listing(
                 index,
             );
         }
-        i = i + 2;
+        k = k + 1;
     }
     close_stretch(grouping_type, s, out, progress)
 }

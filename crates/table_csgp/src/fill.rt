@@ -13,11 +13,11 @@ use table_csgp_head::patterns_behind;
 use table_patterns::run::run_at;
 use table_replay::enter::Tail;
 use table_replay::records::copy_rows;
-use table_replay::records::put_row;
 use table_replay::singly::write_singly;
 use table_replay::step::Stepped;
 use table_replay::step::pattern_start;
 use table_replay::step::replay_step;
+use table_rows::record::put_row;
 
 // Writes the rows from the front, where there are records enough. A run that joins the last row writes it anew; the rows of periods that
 // are passed are copied.

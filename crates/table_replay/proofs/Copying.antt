@@ -10,10 +10,10 @@ use lib.Dec.{eqb}
 use lib.ListN.{length, drop, set, getD, length-append, length-reverse}
 use lib.Seq.{drop-cons, set-at, getD-append-add}
 use Rattle.base_fields.specs.Answer.{choose}
-use Rattle.table_rows.specs.Row.{Row, flat}
+use Rattle.table_rows.specs.Row.{Row, flat, putRow}
 use Rattle.table_rows.proofs.Rows.{flat-length, flat-append}
 use Rattle.table_replay.proofs.Repeating.{stacked}
-use Rattle.table_replay.specs.Records.{putRow, copied, Written}
+use Rattle.table_replay.specs.Records.{copied, Written}
 use Rattle.table_replay.proofs.Entering.{below}
 
 flat-last : (r : Row) (rs : List Row) → flat (reverse (r ∷ rs)) ≡ flat (reverse rs) ++ r .count ∷ r .index ∷ []

@@ -12,7 +12,7 @@ use Rattle.table_patterns.specs.declared.PatternAt.{PatternAt}
 use Rattle.table_patterns.proofs.Indices.{index-at-turn}
 use Rattle.table_patterns.proofs.Runs.{mod-step}
 use Rattle.table_replay.specs.Enter.{enterRun}
-use Rattle.table_replay.specs.Records.{putRow}
+use Rattle.table_rows.specs.Row.{putRow}
 use Rattle.table_replay.specs.Step.{putStep}
 use Rattle.table_replay.specs.Within.{Singly, SinglyWritten}
 use Rattle.table_replay.specs.declared.enter.Tail.{Tail}

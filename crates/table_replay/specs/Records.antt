@@ -1,14 +1,10 @@
--- Rows in the records of a run of numbers: put one by one, copied, or written in front.
+-- Rows in the records of a run of numbers: copied, or written in front.
 use mathlib.Core.Path.{_≡_}
 use Prim.Native.Nat.{ℕ, zero, suc, _+_, _*_}
 use mathlib.Core.List.{List, reverse}
-use lib.ListN.{getD, set}
+use lib.ListN.{getD}
 use Rattle.base_fields.specs.Answer.{given}
-use Rattle.table_rows.specs.Row.{Row, filled}
-
--- a row put at record number `at`
-abbrev pub putRow : ℕ → ℕ → ℕ → List ℕ → List ℕ
-putRow at count index l = set (set l (2 * at) count) (2 * at + 1) index
+use Rattle.table_rows.specs.Row.{Row, putRow, filled}
 
 -- n records copied one after the other, from record i on, to record j on
 unfoldable pub copied : ℕ → ℕ → ℕ → List ℕ → List ℕ

@@ -5,13 +5,13 @@ use mathlib.Core.List.{List}
 use lib.ListN.{length}
 use Rattle.base_fields.specs.Answer.{given, refused}
 use Rattle.base_ids.specs.Limits.{countLimit}
-use Rattle.table_rows.specs.Row.{Row}
+use Rattle.table_rows.specs.Row.{Row, putRow}
 use Rattle.table_rows.specs.Pattern.{Pattern, samplesFrom}
 use Rattle.table_patterns.specs.Run.{GivesRun}
 use Rattle.table_patterns.specs.declared.PatternAt.{PatternAt}
 use Rattle.table_patterns.specs.declared.run.Run.{Run}
 use Rattle.table_replay.specs.Enter.{tailOf}
-use Rattle.table_replay.specs.Records.{putRow, copied, Written}
+use Rattle.table_replay.specs.Records.{copied, Written}
 use Rattle.table_replay.specs.Replay.{replay}
 use Rattle.table_replay.specs.declared.enter.Tail.{Tail}
 use Rattle.table_replay.specs.declared.periods.Mark.{Mark}

@@ -1,19 +1,12 @@
 // The records of a lent run of numbers that rows are written to.
 ghost use mathlib.Core.Path.{_≡_};
-ghost use Prim.Native.Nat.{_+_, _-_, _*_, _≤_, _<_};
+ghost use Prim.Native.Nat.{_-_, _*_, _≤_, _<_};
 ghost use lib.ListN.{length};
-ghost use Rattle.table_replay.specs.Records.{putRow, copied};
+ghost use Rattle.table_replay.specs.Records.{copied};
 use base_ids::RowNumber;
-use base_ids::SampleCount;
-
-// Writes a row at record number `at`.
-pub fn put_row(rows: &mut [RowNumber], at: usize, count: SampleCount, index: u32)
-    requires { ⌜ 2 * at + 2 ≤ length (now rows) ⌝ }
-    ensures { λ r. ⌜ now (rows .exit) ≡ putRow at count index (now (rows .entry)) ⌝ }
-{
-    rows[2 * at] = count;
-    rows[2 * at + 1] = index;
-}
+use table_rows::record::count_at;
+use table_rows::record::description_at;
+use table_rows::record::put_row;
 
 // Copies rows, counted from 1: row `from` to row `to`, and so on up to row `end` - 1.
 pub fn copy_rows(rows: &mut [RowNumber], from: usize, to: usize, end: usize)
@@ -23,9 +16,9 @@ pub fn copy_rows(rows: &mut [RowNumber], from: usize, to: usize, end: usize)
     let mut i = from;
     let mut j = to;
     while j < end {
-        let at = 2 * (i - 1);
-        let count = rows[at];
-        let index = rows[at + 1];
+        let at = i - 1;
+        let count = count_at(rows, at);
+        let index = description_at(rows, at);
         put_row(rows, j - 1, count, index);
         i = i + 1;
         j = j + 1;

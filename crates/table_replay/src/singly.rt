@@ -6,13 +6,13 @@ ghost use Rattle.table_patterns.specs.Place.{patternIn, Stands};
 ghost use Rattle.table_replay.specs.Enter.{GivesSingle, LastOf};
 ghost use Rattle.table_replay.specs.Within.{Singly, SinglyWritten};
 use crate::enter::Tail;
-use crate::records::put_row;
 use crate::step::ReplayState;
 use base_ids::PatternCount;
 use base_ids::RowNumber;
 use base_ids::SampleCount;
 use table_patterns::PatternAt;
 use table_patterns::read_index;
+use table_rows::record::put_row;
 
 enum Single {
     Next(Tail),

@@ -1,4 +1,5 @@
 pub mod Front
+pub mod RowAt
 pub mod Rows
 pub mod Samples
 pub mod Numbered

@@ -2,7 +2,7 @@
 use Prim.Native.Nat.{ℕ, _+_, _-_, _*_, _/_}
 use mathlib.Core.List.{List, [], _∷_, _++_}
 use lib.Dec.{ltb}
-use lib.ListN.{length, replicate, drop}
+use lib.ListN.{length, replicate, drop, set}
 use Rattle.base_fields.specs.Answer.{Answer, given, none, refused, choose, refuseIf}
 use Rattle.base_ids.specs.Limits.{recordLimit}
 
@@ -16,6 +16,10 @@ rowsOf [] = []
 rowsOf (c ∷ []) = []
 rowsOf (c ∷ i ∷ l) = record { count = c; index = i } ∷ rowsOf l
 
+-- what stands for a row past the end
+abbrev pub noRow : Row
+noRow = record { count = 0; index = 0 }
+
 -- the numbers of rows
 unfoldable pub flat : List Row → List ℕ
 flat [] = []
@@ -24,6 +28,10 @@ flat (r ∷ rs) = r .count ∷ r .index ∷ flat rs
 -- how many records a run of numbers has
 abbrev pub recordsIn : List ℕ → ℕ
 recordsIn l = length l / 2
+
+-- a row put over record k
+abbrev pub putRow : ℕ → ℕ → ℕ → List ℕ → List ℕ
+putRow k count index l = set (set l (2 * k) count) (2 * k + 1) index
 
 -- the samples that rows cover
 unfoldable pub covered : List Row → ℕ

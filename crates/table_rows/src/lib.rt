@@ -1,4 +1,6 @@
 // Rows of a sample table in a lent run of numbers: the count and the description index of each, one after the other.
+pub mod record;
+
 ghost use mathlib.Core.Path.{_≡_};
 ghost use Prim.Native.Nat.{_≤_};
 ghost use Rattle.table_rows.specs.Row.{lookup, total, rowsOf, recordsIn, indexAt, covered};
@@ -9,6 +11,9 @@ use base_ids::RECORD_LIMIT;
 use base_ids::RowNumber;
 use base_ids::SampleCount;
 use base_ids::SampleNumber;
+use record::count_at;
+use record::description_at;
+use record::record_count;
 
 pub enum Found {
     Index(DescriptionIndex),
@@ -36,15 +41,16 @@ fn index_at(rows: &[RowNumber], sample: SampleCount) -> u32
     requires { ⌜ recordsIn (now rows) ≤ recordLimit ⌝ }
     ensures { λ r. ⌜ r ≡ indexAt (rowsOf (now (rows .entry))) sample ⌝ }
 {
+    let records = record_count(rows);
     let mut left = sample;
-    let mut i: usize = 0;
-    while i + 1 < rows.len() {
-        let count = rows[i];
+    let mut k: usize = 0;
+    while k < records {
+        let count = count_at(rows, k);
         if left < count {
-            return rows[i + 1];
+            return description_at(rows, k);
         }
         left = left - count;
-        i = i + 2;
+        k = k + 1;
     }
     0
 }
@@ -54,16 +60,16 @@ fn sum_of_counts(rows: &[RowNumber]) -> u64
     requires { ⌜ recordsIn (now rows) ≤ recordLimit ⌝ }
     ensures { λ r. ⌜ r ≡ covered (rowsOf (now (rows .entry))) ⌝ }
 {
-    let records = rows.len() / 2;
+    let records = record_count(rows);
     let half = records / 2;
     let mut sum: u64 = 0;
     let mut k: usize = 0;
     while k < half {
-        sum = sum + (rows[2 * k] as u64 + rows[2 * (half + k)] as u64);
+        sum = sum + (count_at(rows, k) as u64 + count_at(rows, half + k) as u64);
         k = k + 1;
     }
     if records % 2 == 1 {
-        return sum + rows[4 * half] as u64;
+        return sum + count_at(rows, 2 * half) as u64;
     }
     sum
 }
@@ -72,7 +78,7 @@ fn sum_of_counts(rows: &[RowNumber]) -> u64
 pub fn group_index_for_sample(rows: &[RowNumber], sample: SampleNumber) -> Found
     ensures { λ r. ⌜ toldIndex r ≡ lookup (now (rows .entry)) (sample .0) ⌝ }
 {
-    if RECORD_LIMIT < rows.len() / 2 {
+    if RECORD_LIMIT < record_count(rows) {
         return Found::Refused(55);
     }
     let k = sample.0;
@@ -83,7 +89,7 @@ pub fn group_index_for_sample(rows: &[RowNumber], sample: SampleNumber) -> Found
 pub fn covered_samples(rows: &[RowNumber]) -> Covered
     ensures { λ r. ⌜ toldCovered r ≡ total (now (rows .entry)) ⌝ }
 {
-    if RECORD_LIMIT < rows.len() / 2 {
+    if RECORD_LIMIT < record_count(rows) {
         return Covered::Refused(55);
     }
     Covered::Samples(sum_of_counts(rows))

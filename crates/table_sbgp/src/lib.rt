@@ -13,6 +13,8 @@ use table_front::TableKind;
 use table_front::read_front;
 use table_rows::ParsedTable;
 use table_rows::SampleToGroup;
+use table_rows::record::put_row;
+use table_rows::record::record_count;
 
 // The fixed fields, and where the rows stand.
 pub struct SbgpHead {
@@ -59,8 +61,7 @@ pub fn fill(s: &[u8], first: usize, count: usize, rows: &mut [RowNumber])
         let at = first + 8 * k;
         let sample_count = base_fields::read_u32(s, at);
         let index = base_fields::read_u32(s, at + 4);
-        rows[2 * k] = sample_count;
-        rows[2 * k + 1] = index;
+        put_row(rows, k, sample_count, index);
         k = k + 1;
     }
 }
@@ -73,7 +74,7 @@ pub fn parse_sbgp(s: &[u8], rows: &mut [RowNumber]) -> ParsedTable
         ReadSbgp::Head(h) => {
             let first = h.first;
             let count = h.entry_count as usize;
-            if rows.len() / 2 < count {
+            if record_count(rows) < count {
                 return ParsedTable::Refused(29);
             }
             fill(s, first, count, rows);

@@ -5,10 +5,11 @@ use native.Mathlib.Nat.{add-zero, zero-add}
 use native.Mathlib.Omega.{arith}
 use mathlib.Core.List.{List, [], _∷_, _++_}
 use lib.ListN.{length, set, getD, drop, length-append}
-use lib.Seq.{sets, sets-eq}
+use lib.Seq.{drop-length, sets, sets-eq}
 use Rattle.base_fields.specs.Answer.{inFront}
-use Rattle.table_rows.specs.Row.{Row, rowsOf, flat}
-use Rattle.table_rows.proofs.Rows.{rows-first, rows-end, flat-length}
+use Rattle.table_rows.specs.Row.{Row, noRow, flat}
+use Rattle.table_rows.proofs.RowAt.{from-row}
+use Rattle.table_rows.proofs.Rows.{flat-length}
 use Rattle.table_writing.specs.Fields.{Field, field, bitLength, packed, bytesFrom}
 use Rattle.table_writing.specs.Bodies.{body, rowFields, sbgpBytes}
 use Rattle.table_writing.proofs.Parts.{packed-cut, packed-aligned}
@@ -39,17 +40,18 @@ pub words-none : (p : ℕ) (out : List ℕ) → sets out p (words []) ≡ out
 unfolding words
 words-none p out = refl
 
--- the two words of the row at place i
-pub words-row : (l : List ℕ) (i : ℕ) → i + 1 < length l → (p : ℕ) (out : List ℕ) →
-    sets out p (words (flat (rowsOf (drop i l)))) ≡ sets (sets (sets out p (word (getD l i 0))) (p + 4) (word (getD l (i + 1) 0))) (p + 4 + 4) (words (flat (rowsOf (drop (i + 2) l))))
+-- the two words of row k
+pub words-row : (rs : List Row) (k : ℕ) → k < length rs → (p : ℕ) (out : List ℕ) →
+    sets out p (words (flat (drop k rs))) ≡ sets (sets (sets out p (word (getD rs k noRow .count))) (p + 4) (word (getD rs k noRow .index))) (p + 4 + 4) (words (flat (drop (k + 1) rs)))
 unfolding flat
-words-row l i h p out =
-    let rest = flat (rowsOf (drop (i + 2) l)) in
-    rw (rows-first l i h) (words-first (getD l i 0) (getD l (i + 1) 0 ∷ rest) p out ∙ words-first (getD l (i + 1) 0) rest (p + 4) (sets out p (word (getD l i 0))))
+words-row rs k h p out =
+    let r = getD rs k noRow in
+    let rest = flat (drop (k + 1) rs) in
+    rw (from-row rs k h) (words-first (r .count) (r .index ∷ rest) p out ∙ words-first (r .index) rest (p + 4) (sets out p (word (r .count))))
 
-pub words-end : (l : List ℕ) (i : ℕ) → length l ≤ i + 1 → (p : ℕ) (out : List ℕ) → sets out p (words (flat (rowsOf (drop i l)))) ≡ out
+pub words-end : (rs : List Row) (k : ℕ) → k ≡ length rs → (p : ℕ) (out : List ℕ) → sets out p (words (flat (drop k rs))) ≡ out
 unfolding flat
-words-end l i h p out = rw (rows-end l i h) (words-none p out)
+words-end rs k h p out = rw (h, drop-length rs) (words-none p out)
 
 -- the same as fields
 abbrev wordFields : List ℕ → List Field

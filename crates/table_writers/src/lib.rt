@@ -14,6 +14,7 @@ use base_ids::RECORD_LIMIT;
 use base_ids::RowNumber;
 use csgp::put_csgp;
 use sbgp::put_sbgp;
+use table_rows::record::record_count;
 use tally::Tallied;
 use tally::length_of;
 use tally::tally_rows;
@@ -32,17 +33,17 @@ pub enum WrittenTable {
 pub fn quote_sbgp(rows: &[RowNumber]) -> QuotedLength
     ensures { λ r. ⌜ toldLength r ≡ quoteSbgp (now (rows .entry)) ⌝ }
 {
-    if RECORD_LIMIT < rows.len() / 2 {
+    if RECORD_LIMIT < record_count(rows) {
         return QuotedLength::Refused(55);
     }
-    QuotedLength::Length(12 + 8 * (rows.len() / 2))
+    QuotedLength::Length(12 + 8 * record_count(rows))
 }
 
 // The exact length of the csgp that gives the same samples.
 pub fn quote_csgp(rows: &[RowNumber]) -> QuotedLength
     ensures { λ r. ⌜ toldLength r ≡ quoteCsgp (now (rows .entry)) ⌝ }
 {
-    if RECORD_LIMIT < rows.len() / 2 {
+    if RECORD_LIMIT < record_count(rows) {
         return QuotedLength::Refused(55);
     }
     match tally_rows(rows) {
@@ -60,10 +61,10 @@ pub fn write_sbgp(
 ) -> WrittenTable
     ensures { λ r. ⌜ GivesWritten (writeSbgp «grouping_type» (now (rows .entry)) quoted (length (now (out .entry)))) (now (out .entry)) (now (out .exit)) r ⌝ }
 {
-    if RECORD_LIMIT < rows.len() / 2 {
+    if RECORD_LIMIT < record_count(rows) {
         return WrittenTable::Refused(55);
     }
-    if quoted != 12 + 8 * (rows.len() / 2) {
+    if quoted != 12 + 8 * record_count(rows) {
         return WrittenTable::Refused(63);
     }
     if out.len() < quoted {
@@ -82,7 +83,7 @@ pub fn write_csgp(
 ) -> WrittenTable
     ensures { λ r. ⌜ GivesWritten (writeCsgp «grouping_type» (now (rows .entry)) quoted (length (now (out .entry)))) (now (out .entry)) (now (out .exit)) r ⌝ }
 {
-    if RECORD_LIMIT < rows.len() / 2 {
+    if RECORD_LIMIT < record_count(rows) {
         return WrittenTable::Refused(55);
     }
     match tally_rows(rows) {

@@ -1,14 +1,17 @@
 // The rows that remain, one after the other: rows of count 0 are passed, like neighbours are joined.
 ghost use mathlib.Core.List.{_∷_};
 ghost use Prim.Native.Nat.{_+_, _<_, _≤_};
-ghost use lib.ListN.{length, drop};
-ghost use Rattle.table_rows.specs.Row.{rowsOf};
+ghost use lib.ListN.{drop};
+ghost use Rattle.table_rows.specs.Row.{rowsOf, recordsIn};
 ghost use Rattle.table_writing.specs.Joined.{joined};
 ghost use Rattle.table_writers.specs.Runs.{row, Passed, GivesNext};
 use base_ids::COUNT_LIMIT;
 use base_ids::RowNumber;
+use table_rows::record::count_at;
+use table_rows::record::description_at;
+use table_rows::record::record_count;
 
-// A row that remains, and the place behind its last row.
+// A row that remains, and the record behind its last row.
 pub struct RunAt {
     pub count: u32,
     pub index: u32,
@@ -23,36 +26,38 @@ pub enum NextRun {
     End,
 }
 
-// The place of the first row with samples.
+// The first record with samples.
 fn pass_empty(rows: &[RowNumber], from: usize) -> usize
-    requires { ⌜ from ≤ length (now rows) ⌝ }
+    requires { ⌜ from ≤ recordsIn (now rows) ⌝ }
     ensures { λ r. ⌜ Passed (now (rows .entry)) from r ⌝ }
 {
-    let mut i = from;
-    while i + 1 < rows.len() {
-        if rows[i] != 0 {
-            return i;
+    let records = record_count(rows);
+    let mut k = from;
+    while k < records {
+        if count_at(rows, k) != 0 {
+            return k;
         }
-        i = i + 2;
+        k = k + 1;
     }
-    i
+    k
 }
 
-// A run of `count` samples, joined with the like rows from a place on.
+// A run of `count` samples, joined with the like rows from a record on.
 fn join(rows: &[RowNumber], from: usize, count: u32, index: u32) -> NextRun
-    requires { ⌜ (from ≤ length (now rows)) × (0 < count) ⌝ }
-    ensures { λ r. ⌜ GivesNext (joined (row count index ∷ rowsOf (drop from (now (rows .entry))))) (now (rows .entry)) from r ⌝ }
+    requires { ⌜ (from ≤ recordsIn (now rows)) × (0 < count) ⌝ }
+    ensures { λ r. ⌜ GivesNext (joined (row count index ∷ drop from (rowsOf (now (rows .entry))))) (now (rows .entry)) from r ⌝ }
 {
+    let records = record_count(rows);
     let mut total = count;
-    let mut i = from;
-    while i + 1 < rows.len() {
-        let more = rows[i];
+    let mut k = from;
+    while k < records {
+        let more = count_at(rows, k);
         if more != 0 {
-            if rows[i + 1] != index {
+            if description_at(rows, k) != index {
                 return NextRun::Run(RunAt {
                     count: total,
                     index,
-                    next: i,
+                    next: k,
                 });
             }
             if COUNT_LIMIT - total < more {
@@ -60,23 +65,23 @@ fn join(rows: &[RowNumber], from: usize, count: u32, index: u32) -> NextRun
             }
             total = total + more;
         }
-        i = i + 2;
+        k = k + 1;
     }
     NextRun::Run(RunAt {
         count: total,
         index,
-        next: i,
+        next: k,
     })
 }
 
-// The first row that remains of those from a place on.
+// The first row that remains of those from a record on.
 pub fn next_run(rows: &[RowNumber], from: usize) -> NextRun
-    requires { ⌜ from ≤ length (now rows) ⌝ }
-    ensures { λ r. ⌜ GivesNext (joined (rowsOf (drop from (now (rows .entry))))) (now (rows .entry)) (from + 2) r ⌝ }
+    requires { ⌜ from ≤ recordsIn (now rows) ⌝ }
+    ensures { λ r. ⌜ GivesNext (joined (drop from (rowsOf (now (rows .entry))))) (now (rows .entry)) (from + 1) r ⌝ }
 {
-    let i = pass_empty(rows, from);
-    if i + 1 < rows.len() {
-        return join(rows, i + 2, rows[i], rows[i + 1]);
+    let k = pass_empty(rows, from);
+    if k < record_count(rows) {
+        return join(rows, k + 1, count_at(rows, k), description_at(rows, k));
     }
     NextRun::End
 }

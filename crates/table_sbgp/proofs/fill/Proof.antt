@@ -1,4 +1,4 @@
-use mathlib.Core.Path.{_≡_, refl}
+use mathlib.Core.Path.{_≡_, refl, ap, _∙_}
 use mathlib.Core.List.{_++_}
 use Prim.Native.Nat.{_+_, _-_, _*_, _≤_, _<_}
 use native.Mathlib.Omega.{arith}
@@ -35,26 +35,8 @@ add-read-u32 c = search needs
 read-u32-requires-2 : tie.Need-read-u32-requires-2 Inv-loop μ-loop
 read-u32-requires-2 c κs = search needs
 
-mul-rows : tie.Need-mul-rows Inv-loop μ-loop
-mul-rows c = search needs
-
-mul-rows-2 : tie.Need-mul-rows-2 Inv-loop μ-loop
-mul-rows-2 c = search needs
-
-slice-write-rows : tie.Need-slice-write-rows Inv-loop μ-loop
-slice-write-rows c = search needs
-
-mul-rows-3 : tie.Need-mul-rows-3 Inv-loop μ-loop
-mul-rows-3 c = search needs
-
-add-rows : tie.Need-add-rows Inv-loop μ-loop
-add-rows c = search needs
-
-mul-rows-4 : tie.Need-mul-rows-4 Inv-loop μ-loop
-mul-rows-4 c = search needs
-
-slice-write-rows-2 : tie.Need-slice-write-rows-2 Inv-loop μ-loop
-slice-write-rows-2 c = simp length-set (omega arith)
+put-row-requires : tie.Need-put-row-requires Inv-loop μ-loop
+put-row-requires c κs = omega arith
 
 add-k : tie.Need-add-k Inv-loop μ-loop
 add-k c = search needs
@@ -64,12 +46,14 @@ loop-less c = search needs
 
 loop-again : tie.Need-loop-again Inv-loop μ-loop
 loop-again c =
-    let a = c .before .before .before .before .before .before .args in
-    let k = c .before .before .before .loop .k in
-    let h : 2 * k + 1 < length (a .rows .now) = omega arith in (
+    let at-loop = c .before .before .before .before .before .before .before in
+    let a = at-loop .before .before .before .args in
+    let k = at-loop .loop .k in
+    let h : 2 * k + 1 < length (a .rows .now) = omega arith in
+    let q = c .before .before .put-row .ensures in (
       search needs,
-      simp length-set (c .before .before .before .loop .inv .1),
-      rw (c .before .before .before .loop .inv .2, c .before .read-u32 .ensures .0, c .read-u322 .ensures .0) (put-next (a .s .now) (a .first) k (a .rows .now) h),
+      ap length q ∙ simp length-set (at-loop .loop .inv .1),
+      q ∙ rw (at-loop .loop .inv .2, c .before .before .before .before .before .read-u32 .ensures .0, c .before .before .before .before .read-u322 .ensures .0) (put-next (a .s .now) (a .first) k (a .rows .now) h),
     )
 
 same-length : tie.Need-same-length Inv-loop μ-loop
@@ -92,13 +76,7 @@ fill-spec =
     read-u32-requires
     add-read-u32
     read-u32-requires-2
-    mul-rows
-    mul-rows-2
-    slice-write-rows
-    mul-rows-3
-    add-rows
-    mul-rows-4
-    slice-write-rows-2
+    put-row-requires
     add-k
     loop-less
     loop-again

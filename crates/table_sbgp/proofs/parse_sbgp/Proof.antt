@@ -18,21 +18,28 @@ enum-known-h c = search needs
 cast-count : tie.Need-cast-count
 cast-count c = search needs
 
-returns : tie.Need-returns
-returns c = no-room _ _ _ (laid (c .before .before .before)) (c .if1 .taken)
-
-fill-requires : tie.Need-fill-requires
-fill-requires c κs = (laid (c .before .before .before .before) .inside, omega arith)
-
-enum-known-n : tie.Need-enum-known-n
-enum-known-n c = search needs
+record-count-requires : tie.Need-record-count-requires
+record-count-requires c κs = search needs
 
 same-length : tie.Need-same-length
 same-length c = search needs
 
+returns : tie.Need-returns
+returns c = no-room _ _ _ (laid (c .before .before .before .before .before)) (rw (c .before .record-count .ensures) at (c .if1 .taken))
+
+fill-requires : tie.Need-fill-requires
+fill-requires c κs = (laid (c .before .before .before .before .before .before) .inside, omega arith)
+
+enum-known-n : tie.Need-enum-known-n
+enum-known-n c = search needs
+
+same-length-2 : tie.Need-same-length-2
+same-length-2 c = search needs
+
 returns-2 : tie.Need-returns-2
 returns-2 c =
-    room _ _ _ (laid (c .before .before .before .before .before .before .before)) _ (c .before .before .before .before .if1 .left) (c .before .before .fill .ensures)
+    let at-if = c .before .before .before .before in
+    room _ _ _ (laid (at-if .before .before .before .before .before)) _ (rw (at-if .before .record-count .ensures) at (at-if .if1 .left)) (c .before .before .fill .ensures)
 
 returns-3 : tie.Need-returns-3
 returns-3 c =
@@ -46,9 +53,11 @@ parse-sbgp-spec =
     read-sbgp-requires
     enum-known-h
     cast-count
+    record-count-requires
+    same-length
     returns
     fill-requires
     enum-known-n
-    same-length
+    same-length-2
     returns-2
     returns-3)

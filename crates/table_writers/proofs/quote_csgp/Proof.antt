@@ -7,8 +7,11 @@ use borrow.Author.Needs.{needs}
 use Rattle.table_writers.proofs.quote_csgp.Statement.{statement}
 use Rattle.table_writers.proofs.quote_csgp.Tie as tie
 
+record-count-requires : tie.Need-record-count-requires
+record-count-requires c κs = search needs
+
 returns : tie.Need-returns
-returns c = sym (over _ (c .if1 .taken))
+returns c = sym (over _ (rw (c .before .record-count .ensures) at (c .if1 .taken)))
 
 tally-rows-requires : tie.Need-tally-rows-requires
 tally-rows-requires c κs = search needs
@@ -19,7 +22,7 @@ enum-known-t c = search needs
 length-of-requires : tie.Need-length-of-requires
 length-of-requires c κs =
     let told = c .before .before .before in
-    let l = told .before .before .before .args .rows .now in
+    let l = told .before .before .before .before .args .rows .now in
     let o = rw (c .before .t .given .1) at (told .tally-rows .ensures) in
     omega (arith, o .rows, remain-length l, told .before .if1 .left)
 
@@ -29,20 +32,21 @@ enum-told c = search needs
 returns-2 : tie.Need-returns-2
 returns-2 c =
     let told = c .before .before .before .before in
-    let l = told .before .before .before .args .rows .now in
+    let l = told .before .before .before .before .args .rows .now in
     let o = rw (c .before .before .t .given .1) at (told .tally-rows .ensures) in
-    rw (c .length-of .ensures) (sym (quoted-csgp l _ o (told .before .if1 .left)))
+    rw (c .length-of .ensures) (sym (quoted-csgp l _ o (rw (told .before .before .record-count .ensures) at (told .before .if1 .left))))
 
 returns-3 : tie.Need-returns-3
 returns-3 c =
     let told = c .before .before in
-    let l = told .before .before .before .args .rows .now in
-    sym (quoted-over l (rw (c .enum-told .given .1) at (told .tally-rows .ensures)) (told .before .if1 .left))
+    let l = told .before .before .before .before .args .rows .now in
+    sym (quoted-over l (rw (c .enum-told .given .1) at (told .tally-rows .ensures)) (rw (told .before .before .record-count .ensures) at (told .before .if1 .left)))
 
 pub quote-csgp-spec : {M : Type 1} → statement M
 quote-csgp-spec =
     tie.close
     (tie.spec
+    record-count-requires
     returns
     tally-rows-requires
     enum-known-t

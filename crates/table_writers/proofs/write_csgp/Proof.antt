@@ -13,8 +13,11 @@ use borrow.Author.Needs.{needs}
 use Rattle.table_writers.proofs.write_csgp.Statement.{statement}
 use Rattle.table_writers.proofs.write_csgp.Tie as tie
 
+record-count-requires : tie.Need-record-count-requires
+record-count-requires c κs = search needs
+
 returns : tie.Need-returns
-returns c = gives-refused _ (over _ (c .if1 .taken))
+returns c = gives-refused _ (over _ (rw (c .before .record-count .ensures) at (c .if1 .taken)))
 
 tally-rows-requires : tie.Need-tally-rows-requires
 tally-rows-requires c κs = search needs
@@ -25,7 +28,7 @@ enum-known-t c = search needs
 length-of-requires : tie.Need-length-of-requires
 length-of-requires c κs =
     let told = c .before .before .before in
-    let l = told .before .before .before .before .args .rows .now in
+    let l = told .before .before .before .before .before .args .rows .now in
     let o = rw (c .before .t .given .1) at (told .tally-rows .ensures) in
     omega (arith, o .rows, remain-length l, told .before .if1 .left)
 
@@ -33,28 +36,28 @@ returns-2 : tie.Need-returns-2
 returns-2 c =
     let measured = c .before in
     let told = measured .before .before .before .before in
-    let a = told .before .before .before .before .args in
+    let a = told .before .before .before .before .before .args in
     let l = a .rows .now in
     let o = rw (measured .before .before .t .given .1) at (told .tally-rows .ensures) in
-    gives-refused _ (offered-csgp l _ o _ _ _ (told .before .if1 .left) ∙ disagrees _ _ _ _ (λ e. c .if2 .taken (e ∙ sym (measured .length-of .ensures))))
+    gives-refused _ (offered-csgp l _ o _ _ _ (rw (told .before .before .record-count .ensures) at (told .before .if1 .left)) ∙ disagrees _ _ _ _ (λ e. c .if2 .taken (e ∙ sym (measured .length-of .ensures))))
 
 returns-3 : tie.Need-returns-3
 returns-3 c =
     let measured = c .before .before in
     let told = measured .before .before .before .before in
-    let a = told .before .before .before .before .args in
+    let a = told .before .before .before .before .before .args in
     let l = a .rows .now in
     let o = rw (measured .before .before .t .given .1) at (told .tally-rows .ensures) in
-    gives-refused _ (offered-csgp l _ o _ _ _ (told .before .if1 .left) ∙ shorter _ _ _ _ (c .before .if2 .left ∙ measured .length-of .ensures) (c .if3 .taken))
+    gives-refused _ (offered-csgp l _ o _ _ _ (rw (told .before .before .record-count .ensures) at (told .before .if1 .left)) ∙ shorter _ _ _ _ (c .before .if2 .left ∙ measured .length-of .ensures) (c .if3 .taken))
 
 put-csgp-requires : tie.Need-put-csgp-requires
 put-csgp-requires c κs =
     let measured = c .before .before .before in
     let told = measured .before .before .before .before in
-    let a = told .before .before .before .before .args in
+    let a = told .before .before .before .before .before .args in
     let l = a .rows .now in
     let o = rw (measured .before .before .t .given .1) at (told .tally-rows .ensures) in
-    (told .before .if1 .left, o, omega (arith, measured .length-of .ensures, c .before .before .if2 .left, c .before .if3 .left))
+    (rw (told .before .before .record-count .ensures) at (told .before .if1 .left), o, omega (arith, measured .length-of .ensures, c .before .before .if2 .left, c .before .if3 .left))
 
 enum-told : tie.Need-enum-told
 enum-told c = search needs
@@ -68,25 +71,26 @@ returns-4 c =
     let short = put .before .before in
     let measured = short .before .before in
     let told = measured .before .before .before .before in
-    let a = told .before .before .before .before .args in
+    let a = told .before .before .before .before .before .args in
     let l = a .rows .now in
     let o = rw (measured .before .before .t .given .1) at (told .tally-rows .ensures) in
     let needed = short .before .if2 .left ∙ measured .length-of .ensures in
     let bytes = csgpBytes (a .grouping-type) (joined (rowsOf l)) in
     gives-bytes (a .out .now)
-    (offered-csgp l _ o _ _ _ (told .before .if1 .left) ∙ offered-made _ (a .quoted) (length (a .out .now)) bytes needed (short .if3 .left))
+    (offered-csgp l _ o _ _ _ (rw (told .before .before .record-count .ensures) at (told .before .if1 .left)) ∙ offered-made _ (a .quoted) (length (a .out .now)) bytes needed (short .if3 .left))
     (needed ∙ tally-length l _ o ∙ sym (csgp-length (a .grouping-type) (joined (rowsOf l)))) (put .put-csgp .ensures)
 
 returns-5 : tie.Need-returns-5
 returns-5 c =
     let told = c .before .before in
-    let l = told .before .before .before .before .args .rows .now in
-    gives-refused _ (written-over l _ _ _ (rw (c .enum-told .given .1) at (told .tally-rows .ensures)) (told .before .if1 .left))
+    let l = told .before .before .before .before .before .args .rows .now in
+    gives-refused _ (written-over l _ _ _ (rw (c .enum-told .given .1) at (told .tally-rows .ensures)) (rw (told .before .before .record-count .ensures) at (told .before .if1 .left)))
 
 pub write-csgp-spec : {M : Type 1} → statement M
 write-csgp-spec =
     tie.close
     (tie.spec
+    record-count-requires
     returns
     tally-rows-requires
     enum-known-t

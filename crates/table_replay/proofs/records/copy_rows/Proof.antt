@@ -3,6 +3,7 @@ use mathlib.Core.Path.{_≡_, refl, ap, sym, _∙_}
 use Prim.Native.Nat.{_-_, _≤_, _<_}
 use native.Mathlib.Omega.{arith}
 use lib.ListN.{length, length-set}
+use Rattle.table_rows.proofs.RowAt.{row-at}
 use Rattle.table_replay.specs.Records.{copied}
 use Rattle.table_replay.proofs.Copying.{copied-one, copied-end}
 use Rattle.table_replay.proofs.records.copy_rows.Statement.{statement}
@@ -27,47 +28,37 @@ loop-holds c = (refl, c .before .pre .1, refl)
 sub-at : tie.Need-sub-at Inv-loop μ-loop
 sub-at c = let h = behind c in omega arith
 
-mul-at : tie.Need-mul-at Inv-loop μ-loop
-mul-at c = let h = behind c in omega arith
+count-at-requires : tie.Need-count-at-requires Inv-loop μ-loop
+count-at-requires c κs = let h = behind (c .before) in omega arith
 
-mul-count : tie.Need-mul-count Inv-loop μ-loop
-mul-count c = let h = behind c in omega arith
-
-slice-read-count : tie.Need-slice-read-count Inv-loop μ-loop
-slice-read-count c = let h = behind (c .before) in omega arith
-
-add-index : tie.Need-add-index Inv-loop μ-loop
-add-index c = let h = behind (c .before) in omega arith
-
-mul-index : tie.Need-mul-index Inv-loop μ-loop
-mul-index c = let h = behind (c .before) in omega arith
-
-slice-read-index : tie.Need-slice-read-index Inv-loop μ-loop
-slice-read-index c = let h = behind (c .before .before) in omega arith
+description-at-requires : tie.Need-description-at-requires Inv-loop μ-loop
+description-at-requires c κs = let h = behind (c .before .before .before) in omega arith
 
 sub-put-row : tie.Need-sub-put-row Inv-loop μ-loop
-sub-put-row c = let h = behind (c .before .before .before) in omega arith
+sub-put-row c = let h = behind (c .before .before .before .before .before) in omega arith
 
 put-row-requires : tie.Need-put-row-requires Inv-loop μ-loop
-put-row-requires c κs = let h = behind (c .before .before .before) in omega arith
+put-row-requires c κs = let h = behind (c .before .before .before .before .before) in omega arith
 
 add-i : tie.Need-add-i Inv-loop μ-loop
-add-i c = let h = behind (c .before .before .before .before .before .before) in omega arith
+add-i c = let h = behind (c .before .before .before .before .before .before .before .before) in omega arith
 
 add-j : tie.Need-add-j Inv-loop μ-loop
-add-j c = let h = behind (c .before .before .before .before .before .before) in omega arith
+add-j c = let h = behind (c .before .before .before .before .before .before .before .before) in omega arith
 
 loop-less : tie.Need-loop-less Inv-loop μ-loop
-loop-less c = omega (arith, c .before .before .before .before .before .before .loop-test .taken)
+loop-less c = omega (arith, c .before .before .before .before .before .before .before .before .loop-test .taken)
 
 loop-again : tie.Need-loop-again Inv-loop μ-loop
 loop-again c =
-    let turn : Turn = c .before .before .before .before .before .before in
+    let turn : Turn = c .before .before .before .before .before .before .before .before in
     let at-loop = turn .before in
     let own = at-loop .loop in
     let h = behind turn in
-    let q = c .before .before .put-row .ensures in (
-      sym (copied-one (own .i) (own .j) (at-loop .before .before .args .end) (own .rows) (h .0) (h .1) (turn .loop-test .taken) q) ∙ own .inv .0,
+    let row = row-at (own .rows) (own .i - 1) (omega arith) in
+    let q = c .before .before .put-row .ensures in
+    let p = rw (c .before .before .before .before .before .before .count-at .ensures, c .before .before .before .before .description-at .ensures, row) at q in (
+      sym (copied-one (own .i) (own .j) (at-loop .before .before .args .end) (own .rows) (h .0) (h .1) (turn .loop-test .taken) p) ∙ own .inv .0,
       λ l. (omega arith, omega arith),
       ap length q ∙ simp length-set (own .inv .2),
     )
@@ -86,12 +77,8 @@ copy-rows-spec =
     μ-loop
     loop-holds
     sub-at
-    mul-at
-    mul-count
-    slice-read-count
-    add-index
-    mul-index
-    slice-read-index
+    count-at-requires
+    description-at-requires
     sub-put-row
     put-row-requires
     add-i

@@ -1,36 +1,38 @@
 -- The invariant: as many rows remain from here as from the start.
 use mathlib.Core.Path.{_≡_, refl, _∙_}
-use Prim.Native.Nat.{_-_, _≤_}
+use Prim.Native.Nat.{_-_, _<_, _≤_}
+use native.Mathlib.Omega.{arith}
 use borrow.Author.Needs.{needs}
 use lib.ListN.{length}
+use Rattle.table_rows.specs.Row.{rowsOf, recordsIn}
+use Rattle.table_rows.proofs.RowAt.{rows-length}
 use Rattle.table_writers.specs.Runs.{ahead}
 use Rattle.table_writers.proofs.Walk.{pass-step}
 use Rattle.table_writers.proofs.runs.pass_empty.Statement.{statement}
 use Rattle.table_writers.proofs.runs.pass_empty.Tie as tie
 
 abbrev Inv-loop : tie.InvT-loop
-Inv-loop rows from i₀ i = (i ≤ length rows) × (from ≤ i) × (ahead rows from ≡ ahead rows i)
+Inv-loop rows from records k₀ k = (k ≤ records) × (records ≡ recordsIn rows) × (from ≤ k) × (ahead rows from ≡ ahead rows k)
 
 abbrev μ-loop : tie.MeasureT-loop
-μ-loop rows from i₀ i = length rows - i
+μ-loop rows from records k₀ k = records - k
+
+record-count-requires : tie.Need-record-count-requires Inv-loop μ-loop
+record-count-requires c κs = search needs
 
 loop-holds : tie.Need-loop-holds Inv-loop μ-loop
-loop-holds c = (search needs, search needs, refl)
+loop-holds c = (search needs, c .record-count .ensures, search needs, refl)
 
-add-loop : tie.Need-add-loop Inv-loop μ-loop
-add-loop c = search needs
-
-mul-if1 : tie.Need-mul-if1 Inv-loop μ-loop
-mul-if1 c = search needs
-
-shared-slice-read-if1 : tie.Need-shared-slice-read-if1 Inv-loop μ-loop
-shared-slice-read-if1 c = search needs
+count-at-requires : tie.Need-count-at-requires Inv-loop μ-loop
+count-at-requires c κs = search needs
 
 returns : tie.Need-returns Inv-loop μ-loop
-returns c = search needs
+returns c =
+    let o = c .before .before .before .loop in
+    record { onward = o .inv .2; inside = omega arith; rows = o .inv .3; some = λ h. omega (arith, c .if1 .taken, c .before .count-at .ensures) }
 
-add-i : tie.Need-add-i Inv-loop μ-loop
-add-i c = search needs
+add-k : tie.Need-add-k Inv-loop μ-loop
+add-k c = search needs
 
 loop-less : tie.Need-loop-less Inv-loop μ-loop
 loop-less c = search needs
@@ -38,12 +40,15 @@ loop-less c = search needs
 loop-again : tie.Need-loop-again Inv-loop μ-loop
 loop-again c =
     let at-loop = c .before .before .before in
-    let l = at-loop .before .args .rows .now in
-    let i = at-loop .loop .i in
-    (search needs, search needs, at-loop .loop .inv .2 ∙ pass-step l i (c .before .before .loop-test .taken) (c .if1 .left))
+    let l = at-loop .before .before .before .args .rows .now in
+    let k = at-loop .loop .k in
+    let h : k < length (rowsOf l) = omega (arith, rows-length l) in
+    (search needs, search needs, search needs, at-loop .loop .inv .3 ∙ pass-step (rowsOf l) k h (rw (c .before .count-at .ensures) at (c .if1 .left)))
 
 returns-2 : tie.Need-returns-2 Inv-loop μ-loop
-returns-2 c = search needs
+returns-2 c =
+    let o = c .before .loop in
+    record { onward = o .inv .2; inside = omega arith; rows = o .inv .3; some = λ h. absurd (omega (arith, c .loop-test .left)) }
 
 pub pass-empty-spec : {M : Type 1} → statement M
 pass-empty-spec =
@@ -51,12 +56,11 @@ pass-empty-spec =
     (tie.spec
     Inv-loop
     μ-loop
+    record-count-requires
     loop-holds
-    add-loop
-    mul-if1
-    shared-slice-read-if1
+    count-at-requires
     returns
-    add-i
+    add-k
     loop-less
     loop-again
     returns-2)

@@ -1,29 +1,30 @@
 -- The words still to come make of the output what all of them make of the first.
 use mathlib.Core.Path.{_≡_, refl, ap, sym, _∙_}
-use Prim.Native.Nat.{_+_, _-_, _*_, _%_, _≤_}
+use Prim.Native.Nat.{_+_, _-_, _*_, _<_, _≤_}
 use native.Mathlib.Omega.{arith}
 use borrow.Author.Needs.{needs}
 use lib.ListN.{length, getD, drop}
 use lib.Seq.{sets, length-sets}
-use Rattle.table_rows.specs.Row.{rowsOf, flat}
+use Rattle.table_rows.specs.Row.{rowsOf, recordsIn, noRow, flat}
+use Rattle.table_rows.proofs.RowAt.{rows-length}
 use Rattle.table_writers.specs.Words.{word, words}
 use Rattle.table_writers.proofs.Bytes.{words-row, words-end}
 use Rattle.table_writers.proofs.sbgp.put_rows.Statement.{statement}
 use Rattle.table_writers.proofs.sbgp.put_rows.Tie as tie
 
 abbrev Inv-loop : tie.InvT-loop
-Inv-loop rows out₀ i₀ out i =
-    (i ≤ length rows) × (i % 2 ≡ 0) × (length out ≡ length out₀)
-    × (sets out (12 + 4 * i) (words (flat (rowsOf (drop i rows)))) ≡ sets out₀ 12 (words (flat (rowsOf rows))))
+Inv-loop rows out₀ records k₀ out k =
+    (k ≤ records) × (records ≡ recordsIn rows) × (length out ≡ length out₀)
+    × (sets out (12 + 8 * k) (words (flat (drop k (rowsOf rows)))) ≡ sets out₀ 12 (words (flat (rowsOf rows))))
 
 abbrev μ-loop : tie.MeasureT-loop
-μ-loop rows out₀ i₀ out i = length rows - i
+μ-loop rows out₀ records k₀ out k = records - k
+
+record-count-requires : tie.Need-record-count-requires Inv-loop μ-loop
+record-count-requires c κs = search needs
 
 loop-holds : tie.Need-loop-holds Inv-loop μ-loop
-loop-holds c = (search needs, refl, refl, refl)
-
-add-loop : tie.Need-add-loop Inv-loop μ-loop
-add-loop c = search needs
+loop-holds c = (search needs, c .record-count .ensures, refl, refl)
 
 mul-put-word : tie.Need-mul-put-word Inv-loop μ-loop
 mul-put-word c = search needs
@@ -31,35 +32,26 @@ mul-put-word c = search needs
 add-put-word : tie.Need-add-put-word Inv-loop μ-loop
 add-put-word c = search needs
 
-mul-put-word-2 : tie.Need-mul-put-word-2 Inv-loop μ-loop
-mul-put-word-2 c = search needs
-
-shared-slice-read-put-word : tie.Need-shared-slice-read-put-word Inv-loop μ-loop
-shared-slice-read-put-word c = search needs
+count-at-requires : tie.Need-count-at-requires Inv-loop μ-loop
+count-at-requires c κs = search needs
 
 put-word-requires : tie.Need-put-word-requires Inv-loop μ-loop
 put-word-requires c κs = search needs
 
-mul-put-word-3 : tie.Need-mul-put-word-3 Inv-loop μ-loop
-mul-put-word-3 c = search needs
+mul-put-word-2 : tie.Need-mul-put-word-2 Inv-loop μ-loop
+mul-put-word-2 c = search needs
 
 add-put-word-2 : tie.Need-add-put-word-2 Inv-loop μ-loop
 add-put-word-2 c = search needs
 
-add-put-word-3 : tie.Need-add-put-word-3 Inv-loop μ-loop
-add-put-word-3 c = search needs
-
-mul-put-word-4 : tie.Need-mul-put-word-4 Inv-loop μ-loop
-mul-put-word-4 c = search needs
-
-shared-slice-read-put-word-2 : tie.Need-shared-slice-read-put-word-2 Inv-loop μ-loop
-shared-slice-read-put-word-2 c = search needs
+description-at-requires : tie.Need-description-at-requires Inv-loop μ-loop
+description-at-requires c κs = search needs
 
 put-word-requires-2 : tie.Need-put-word-requires-2 Inv-loop μ-loop
 put-word-requires-2 c κs = search needs
 
-add-i : tie.Need-add-i Inv-loop μ-loop
-add-i c = search needs
+add-k : tie.Need-add-k Inv-loop μ-loop
+add-k c = search needs
 
 loop-less : tie.Need-loop-less Inv-loop μ-loop
 loop-less c = search needs
@@ -70,16 +62,18 @@ loop-again c =
     let first = second .before .before .before .before .before in
     let at-loop = first .before .before .before .before in
     let o = at-loop .loop in
-    let l = at-loop .before .before .before .args .rows .now in
-    let p = 12 + 4 * o .i in
-    let next : 16 + 4 * o .i ≡ p + 4 = omega arith in
-    let behind : 12 + 4 * (o .i + 2) ≡ p + 4 + 4 = omega arith in
-    let out : second .put-word2 .last .0 ≡ sets (sets (o .out) p (word (getD l (o .i) 0))) (p + 4) (word (getD l (o .i + 1) 0)) =
-    second .put-word2 .ensures ∙ rw (next, first .put-word .ensures) in (
+    let l = at-loop .before .before .before .before .args .rows .now in
+    let rs = rowsOf l in
+    let h : o .k < length rs = omega (arith, rows-length l) in
+    let p = 12 + 8 * o .k in
+    let next : 16 + 8 * o .k ≡ p + 4 = omega arith in
+    let behind : 12 + 8 * (o .k + 1) ≡ p + 4 + 4 = omega arith in
+    let out : second .put-word2 .last .0 ≡ sets (sets (o .out) p (word (getD rs (o .k) noRow .count))) (p + 4) (word (getD rs (o .k) noRow .index)) =
+    second .put-word2 .ensures ∙ rw (next, first .put-word .ensures, first .before .count-at .ensures, second .before .description-at .ensures) refl in (
       omega arith,
-      omega arith,
+      search needs,
       ap length out ∙ simp length-sets (o .inv .2),
-      rw (behind, out) (sym (words-row l (o .i) (first .before .before .before .loop-test .taken) p (o .out)) ∙ o .inv .3),
+      rw (behind, out) (sym (words-row rs (o .k) h p (o .out)) ∙ o .inv .3),
     )
 
 same-length : tie.Need-same-length Inv-loop μ-loop
@@ -88,8 +82,9 @@ same-length c = c .before .loop .inv .2
 returns : tie.Need-returns Inv-loop μ-loop
 returns c =
     let o = c .before .loop in
-    let l = c .before .before .before .before .args .rows .now in
-    sym (words-end l (o .i) (c .loop-test .left) (12 + 4 * o .i) (o .out)) ∙ o .inv .3
+    let l = c .before .before .before .before .before .args .rows .now in
+    let h : o .k ≡ length (rowsOf l) = omega (arith, rows-length l) in
+    sym (words-end (rowsOf l) (o .k) h (12 + 8 * o .k) (o .out)) ∙ o .inv .3
 
 pub put-rows-spec : {M : Type 1} → statement M
 put-rows-spec =
@@ -97,20 +92,17 @@ put-rows-spec =
     (tie.spec
     Inv-loop
     μ-loop
+    record-count-requires
     loop-holds
-    add-loop
     mul-put-word
     add-put-word
-    mul-put-word-2
-    shared-slice-read-put-word
+    count-at-requires
     put-word-requires
-    mul-put-word-3
+    mul-put-word-2
     add-put-word-2
-    add-put-word-3
-    mul-put-word-4
-    shared-slice-read-put-word-2
+    description-at-requires
     put-word-requires-2
-    add-i
+    add-k
     loop-less
     loop-again
     same-length

@@ -2,8 +2,7 @@
 use Prim.Native.Nat.{_-_, _≤_}
 use native.Mathlib.Omega.{arith}
 use borrow.Author.Needs.{needs}
-use lib.ListN.{length}
-use Rattle.table_rows.specs.Row.{rowsOf}
+use Rattle.table_rows.specs.Row.{rowsOf, recordsIn}
 use Rattle.table_writing.specs.Joined.{joined}
 use Rattle.table_writers.specs.Runs.{ahead}
 use Rattle.table_writers.proofs.Walk.{remain-length}
@@ -12,10 +11,10 @@ use Rattle.table_writers.proofs.tally.tally_rows.Statement.{statement}
 use Rattle.table_writers.proofs.tally.tally_rows.Tie as tie
 
 abbrev Inv-loop : tie.InvT-loop
-Inv-loop rows t₀ i₀ t i = (i ≤ length rows) × Tallying (joined (rowsOf rows)) (ahead rows i) t
+Inv-loop rows t₀ i₀ t i = (i ≤ recordsIn rows) × Tallying (joined (rowsOf rows)) (ahead rows i) t
 
 abbrev μ-loop : tie.MeasureT-loop
-μ-loop rows t₀ i₀ t i = length rows - i
+μ-loop rows t₀ i₀ t i = recordsIn rows - i
 
 loop-holds : tie.Need-loop-holds Inv-loop μ-loop
 loop-holds c = (search needs, tallying-first _)

@@ -1,9 +1,8 @@
--- Two numbers are written, both within the run.
 use native.Mathlib.Omega.{arith}
-use borrow.Author.Needs.{needs}
 use lib.ListN.{length-set}
-use Rattle.table_replay.proofs.records.put_row.Statement.{statement}
-use Rattle.table_replay.proofs.records.put_row.Tie as tie
+use borrow.Author.Needs.{needs}
+use Rattle.table_rows.proofs.record.put_row.Statement.{statement}
+use Rattle.table_rows.proofs.record.put_row.Tie as tie
 
 mul-rows : tie.Need-mul-rows
 mul-rows c = search needs
