@@ -1,5 +1,7 @@
 /* The library on an emulated controller: the stored answers replayed through the C functions, document 01's starred cases, and for each call the instructions
  * and the stack that it takes. No library of C: text goes out by semihosting. The timer counts instructions (-icount shift=0), 40 of them to a tick. */
+#include <stddef.h>
+
 #include "film_index.h"
 
 /* Semihosting, and numbers as text. */
@@ -43,7 +45,8 @@ void __aeabi_memclr8(void *to, size_t n) __attribute__((alias("__aeabi_memclr"))
 
 /* Stored answers (docs/VECTORS.md): a line is a record in hexadecimal. */
 static uint8_t record[4096];
-static uint32_t rows[4096];
+#define ROOM (FILM_ROW_NUMBERS * 2048) /* numbers of the rows that are lent */
+static film_row_number rows[ROOM];
 static uint8_t listing[16384];
 
 /* What stands in an output before a table is written. */
@@ -196,6 +199,29 @@ static void count_starred(void) {
     text(right == answers ? " right\n" : " right  WRONG\n");
 }
 
+/* Calls with null for what is empty, counted. */
+#include "../examples/null_cases.h"
+
+static unsigned nulls, taken;
+
+static void null_case(const char *call, uint32_t status, uint32_t want) {
+    if (status != want) {
+        text(call);
+        text(": WRONG\n");
+    }
+    nulls++;
+    taken += status == want;
+}
+
+static void count_nulls(void) {
+    all_null_cases();
+    text("null with length 0: ");
+    number(nulls);
+    text(" calls, ");
+    number(taken);
+    text(taken == nulls ? " right\n" : " right  WRONG\n");
+}
+
 /* Counting: the timer runs down, 40 instructions to a tick. The stack below this frame is painted, and the deepest byte that changed is found. */
 #define SYST ((volatile uint32_t *)0xe000e010)
 extern uint8_t stack_low[];
@@ -296,20 +322,20 @@ static void measured(void) {
 
     end = put(word(put(input, 0, 4), "rap "), 1000, 4);
     for (unsigned k = 0; k < 1000; k++) end = put(put(end, k % 7 + 1, 4), k % 3, 4);
-    MEASURE("parse_sbgp, 1,000 rows", 10, film_parse_sbgp(input, (film_size)(end - input), rows, 2000, out));
+    MEASURE("parse_sbgp, 1,000 rows", 10, film_parse_sbgp(input, (film_size)(end - input), rows, FILM_ROW_NUMBERS * 1000, out));
     MEASURE("sbgp_rows_needed, 1,000 rows", 1000, film_sbgp_rows_needed(input, (film_size)(end - input), out));
-    MEASURE("group_index_for_sample, the first of 1,000 rows", 1000, film_group_index_for_sample(rows, 2000, 0, out));
-    MEASURE("group_index_for_sample, the last of 1,000 rows", 10, film_group_index_for_sample(rows, 2000, 3993, out));
-    MEASURE("covered_samples, 1,000 rows", 10, film_covered_samples(rows, 2000, out));
+    MEASURE("group_index_for_sample, the first of 1,000 rows", 1000, film_group_index_for_sample(rows, FILM_ROW_NUMBERS * 1000, 0, out));
+    MEASURE("group_index_for_sample, the last of 1,000 rows", 10, film_group_index_for_sample(rows, FILM_ROW_NUMBERS * 1000, 3993, out));
+    MEASURE("covered_samples, 1,000 rows", 10, film_covered_samples(rows, FILM_ROW_NUMBERS * 1000, out));
 
     end = put(put(put(csgp_front(input, "rap ", 1), 1, 4), 9000, 4), 1, 1);
-    MEASURE("parse_csgp, uniform", 100, film_parse_csgp(input, (film_size)(end - input), rows, 4096, out));
+    MEASURE("parse_csgp, uniform", 100, film_parse_csgp(input, (film_size)(end - input), rows, ROOM, out));
     end = put(put(put(csgp_front(input, "rap ", 1), 2, 4), 2000, 4), 0x0102, 2);
-    MEASURE("parse_csgp, alternating, 2,000 rows", 10, film_parse_csgp(input, (film_size)(end - input), rows, 4096, out));
+    MEASURE("parse_csgp, alternating, 2,000 rows", 10, film_parse_csgp(input, (film_size)(end - input), rows, ROOM, out));
     MEASURE("csgp_rows_needed, the same", 100, film_csgp_rows_needed(input, (film_size)(end - input), out));
     end = put(put(csgp_front(input, "rap ", 1), 300, 4), 3000, 4);
     for (unsigned k = 0; k < 300; k++) *end++ = (uint8_t)(1 + k / 3 % 9);
-    MEASURE("parse_csgp, 300 indices by threes, 3,000 samples", 10, film_parse_csgp(input, (film_size)(end - input), rows, 4096, out));
+    MEASURE("parse_csgp, 300 indices by threes, 3,000 samples", 10, film_parse_csgp(input, (film_size)(end - input), rows, ROOM, out));
 
     end = put(put(word(put(input, 0x01000000, 4), "abcd"), 4, 4), 1000, 4);
     for (unsigned k = 0; k < 1000; k++) end = put(end, k, 4);
@@ -319,14 +345,14 @@ static void measured(void) {
     for (unsigned k = 0; k < 1000; k++) end = put(put(end, 4, 4), k, 4);
     MEASURE("parse_sgpd, 1,000 entries, lengths", 10, film_parse_sgpd(input, (film_size)(end - input), out));
     MEASURE("entry_place, the last, lengths", 10, film_entry_place(input, (film_size)(end - input), 1000, out));
-    MEASURE("entry_places, all 1,000, lengths", 10, film_entry_places(input, (film_size)(end - input), rows, 4096, out));
+    MEASURE("entry_places, all 1,000, lengths", 10, film_entry_places(input, (film_size)(end - input), rows, ROOM, out));
     MEASURE("described_place, the fragment's last, lengths", 10,
             film_described_place(input, (film_size)(end - input), input, (film_size)(end - input), 0x80000000u | 1000, out));
     end = put(word(put(input, 0, 4), "abcd"), 1000, 4);
     for (unsigned k = 0; k < 500; k++) end = put(end, 0, 4);
     MEASURE("parse_sgpd, 1,000 entries, shares", 10, film_parse_sgpd(input, (film_size)(end - input), out));
     MEASURE("entry_place, the last, shares", 10, film_entry_place(input, (film_size)(end - input), 1000, out));
-    MEASURE("entry_places, all 1,000, shares", 10, film_entry_places(input, (film_size)(end - input), rows, 4096, out));
+    MEASURE("entry_places, all 1,000, shares", 10, film_entry_places(input, (film_size)(end - input), rows, ROOM, out));
     MEASURE("split_csgp_index", 1000, (film_split_csgp_index(0x80000007u, out), 0));
     MEASURE("rate_of_point", 1000, film_rate_of_point(4000000000u, 75));
 
@@ -339,7 +365,7 @@ static void measured(void) {
     put(input, 100, 2);
     MEASURE("decode_rash, 100 points", 1000, film_decode_rash(input, 611, out));
     MEASURE("rash_operation_point, one of 100", 1000, film_rash_operation_point(input, 611, 50, out));
-    MEASURE("rash_operation_points, all 100", 100, film_rash_operation_points(input, 611, rows, 4096, out));
+    MEASURE("rash_operation_points, all 100", 100, film_rash_operation_points(input, 611, rows, ROOM, out));
     MEASURE("decode_alike, rash of 100 points", 10, film_decode_alike(0x72617368, input, 611, input, 611, out));
     MEASURE("decode_alst, 100 offsets, 50 pieces", 1000, film_decode_alst(input, 604, out));
     MEASURE("alst_sample_offset, one of 100", 1000, film_alst_sample_offset(input, 604, 50, out));
@@ -361,7 +387,7 @@ static void measured(void) {
     end = put(put(put(put(put(put(end, 2, 4), 0xfffe, 2), 2, 4), 3, 2), 2, 4), 0xfffe, 2);
     word(put(groups, (uint64_t)(end - groups), 4), "sgpd");
     film_size body = (film_size)(end - input);
-    MEASURE("cue_listing, 1,000,000 samples", 1, film_cue_listing(input, body, 0x726f6c6c, rows, 4096, listing, sizeof listing, out));
+    MEASURE("cue_listing, 1,000,000 samples", 1, film_cue_listing(input, body, 0x726f6c6c, rows, ROOM, listing, sizeof listing, out));
     MEASURE("roll_start, the last frame of the same", 1, film_roll_start(input, body, 999999, out));
 
     /* the same body in a film, within five containers */
@@ -369,7 +395,7 @@ static void measured(void) {
     for (film_size k = body; k > 0; k--) input[k + 39] = input[k - 1];
     for (unsigned k = 0; k < 5; k++) word(put(input + 8 * k, body + 8 * (5 - k), 4), path + 4 * k);
     MEASURE("find_stbl, the same in a film", 100, film_find_stbl(input, body + 40, 0, out));
-    MEASURE("file_cue_listing, the same in a film", 1, film_file_cue_listing(input, body + 40, 0, 0x726f6c6c, rows, 4096, listing, sizeof listing, out));
+    MEASURE("file_cue_listing, the same in a film", 1, film_file_cue_listing(input, body + 40, 0, 0x726f6c6c, rows, ROOM, listing, sizeof listing, out));
 
     /* `empty-far` of bench/src/listing.rs: 3,721 empty entries with lengths of their own, two of each sixteenth looked up in turn by 2,048 rows */
     const unsigned entries = 3721, apart = 233, turns = 683;
@@ -383,7 +409,7 @@ static void measured(void) {
     end = put(put(word(put(end + 8, 0x01000000, 4), "abcd"), 0, 4), entries, 4);
     for (unsigned k = 0; k < entries; k++) end = put(end, 0, 4);
     word(put(groups, (uint64_t)(end - groups), 4), "sgpd");
-    MEASURE("cue_listing, empty-far", 1, film_cue_listing(input, (film_size)(end - input), 0x61626364, rows, 4096, listing, sizeof listing, out));
+    MEASURE("cue_listing, empty-far", 1, film_cue_listing(input, (film_size)(end - input), 0x61626364, rows, ROOM, listing, sizeof listing, out));
     if (out[0] != 10 || out[1] != 2048) text("WRONG\n");
 
     /* the costliest body that is known, `empty-far-8` of the same file: 3,571 such entries, eighteen neighbours of them looked up in turn by 2,048 rows */
@@ -394,7 +420,7 @@ static void measured(void) {
     end = put(put(word(put(end + 8, 0x01000000, 4), "abcd"), 0, 4), 3571, 4);
     for (unsigned k = 0; k < 3571; k++) end = put(end, 0, 4);
     word(put(groups, (uint64_t)(end - groups), 4), "sgpd");
-    MEASURE("cue_listing, empty-far-8", 1, film_cue_listing(input, (film_size)(end - input), 0x61626364, rows, 4096, listing, sizeof listing, out));
+    MEASURE("cue_listing, empty-far-8", 1, film_cue_listing(input, (film_size)(end - input), 0x61626364, rows, ROOM, listing, sizeof listing, out));
     if (out[0] != 10 || out[1] != 2048) text("WRONG\n");
 
     /* `shared-far` of the same file: 6,120 entries of a byte that share 12,239 */
@@ -405,7 +431,7 @@ static void measured(void) {
     end = put(word(put(end + 8, 0, 4), "abcd"), 6120, 4);
     for (unsigned k = 0; k < 12239; k++) end = put(end, 0, 1);
     word(put(groups, (uint64_t)(end - groups), 4), "sgpd");
-    MEASURE("cue_listing, shared-far", 1, film_cue_listing(input, (film_size)(end - input), 0x61626364, rows, 4096, listing, sizeof listing, out));
+    MEASURE("cue_listing, shared-far", 1, film_cue_listing(input, (film_size)(end - input), 0x61626364, rows, ROOM, listing, sizeof listing, out));
     if (out[0] != 11 || out[1] != 2048) text("WRONG\n");
 }
 
@@ -424,6 +450,7 @@ void reset(void) {
     replay("descriptions", descriptions, descriptions_end, 1);
     replay("records", records, records_end, 1);
     replay("damaged", damaged, damaged_end, 0);
+    count_nulls();
     count_starred();
     measured();
     host(0x18, (const void *)0x20026);

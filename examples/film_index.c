@@ -1,9 +1,10 @@
-/* Every call of film_index.h once, with its answer. Exits with 1 at the first answer that is not the expected one. */
+/* Every call of film_index.h once, with its answer, and once with null for what is empty. Exits with 1 where an answer is not the expected one. */
 #include <inttypes.h>
 #include <stdio.h>
 #include <string.h>
 
 #include "film_index.h"
+#include "null_cases.h"
 
 static int failures;
 
@@ -19,6 +20,8 @@ static void expect_all(const char *call, const uint64_t *got, const uint64_t *wa
         expect(call, got[i], want[i]);
     }
 }
+
+static void null_case(const char *call, uint32_t status, uint32_t want) { expect(call, status, want); }
 
 /* A film's front: a container `stbl` of 92 bytes with an sbgp, a csgp and an sgpd of type roll. */
 static const uint8_t film[] = {
@@ -43,7 +46,7 @@ static void atoms(void) {
     uint64_t at = 8, count = 0;
     uint32_t status;
     while ((status = film_next_child(film, sizeof film, at, 1, 92, child)) == FILM_OK) {
-        at = child[0];
+        at = child[FILM_CHILD_NEXT];
         count++;
     }
     expect("film_next_child", status, FILM_NONE);
@@ -51,23 +54,23 @@ static void atoms(void) {
     expect("film_next_child", film_next_child(film, sizeof film, 8, 1, 40, child), FILM_CHILD_PAST_PARENT);
 
     expect("film_read_payload", film_read_payload(film, sizeof film, 8, body), FILM_OK);
-    expect("film_read_payload", body[0], 16);
-    expect("film_read_payload", body[1], 28);
+    expect("film_read_payload", body[FILM_PLACE], 16);
+    expect("film_read_payload", body[FILM_PLACE_LENGTH], 28);
     expect("film_read_payload_bounded", film_read_payload_bounded(film, sizeof film, 8, 28, body), FILM_OK);
     expect("film_read_payload_bounded", film_read_payload_bounded(film, sizeof film, 8, 27, body), FILM_BODY_OVER_ENVELOPE);
 }
 
 static void tables(void) {
     const uint8_t *sbgp = film + 16, *csgp = film + 52;
-    uint32_t rows[8];
+    film_row_number rows[4 * FILM_ROW_NUMBERS];
     uint64_t head[3], one[1];
     memset(rows, 0x77, sizeof rows);
-    expect("film_parse_sbgp", film_parse_sbgp(sbgp, 28, rows, 2, head), FILM_NO_RECORD_LEFT);
+    expect("film_parse_sbgp", film_parse_sbgp(sbgp, 28, rows, FILM_ROW_NUMBERS, head), FILM_NO_RECORD_LEFT);
     expect("film_parse_sbgp", rows[0], 0x77777777);
-    expect("film_parse_sbgp", film_parse_sbgp(sbgp, 28, rows, 8, head), FILM_OK);
-    expect("film_parse_sbgp", head[0], 0x726f6c6c);
-    expect("film_parse_sbgp", head[1], 0);
-    expect("film_parse_sbgp", head[2], 2);
+    expect("film_parse_sbgp", film_parse_sbgp(sbgp, 28, rows, 4 * FILM_ROW_NUMBERS, head), FILM_OK);
+    expect("film_parse_sbgp", head[FILM_TABLE_TYPE], FILM_TYPE_ROLL);
+    expect("film_parse_sbgp", head[FILM_TABLE_PARAMETER], 0);
+    expect("film_parse_sbgp", head[FILM_TABLE_ROWS], 2);
     expect("film_parse_sbgp", rows[0], 2);
     expect("film_parse_sbgp", rows[1], 1);
     expect("film_parse_sbgp", rows[4], 0x77777777);
@@ -79,33 +82,33 @@ static void tables(void) {
     expect("film_csgp_rows_needed", film_csgp_rows_needed(csgp, 14, one), FILM_OK);
     expect("film_csgp_rows_needed", one[0], 3);
     expect("film_csgp_rows_needed", film_csgp_rows_needed(csgp, 13, one), FILM_INDEX_CUT);
-    expect("film_parse_csgp", film_parse_csgp(csgp, 14, rows, 8, head), FILM_OK);
+    expect("film_parse_csgp", film_parse_csgp(csgp, 14, rows, 4 * FILM_ROW_NUMBERS, head), FILM_OK);
     expect("film_parse_csgp", head[2], 3);
     expect("film_parse_csgp", rows[5], 1);
     /* sample 1 has the index 2; sample 3 is past the end */
-    expect("film_group_index_for_sample", film_group_index_for_sample(rows, 2 * head[2], 1, one), FILM_OK);
+    expect("film_group_index_for_sample", film_group_index_for_sample(rows, FILM_ROW_NUMBERS * head[FILM_TABLE_ROWS], 1, one), FILM_OK);
     expect("film_group_index_for_sample", one[0], 2);
-    expect("film_group_index_for_sample", film_group_index_for_sample(rows, 2 * head[2], 3, one), FILM_OK);
+    expect("film_group_index_for_sample", film_group_index_for_sample(rows, FILM_ROW_NUMBERS * head[FILM_TABLE_ROWS], 3, one), FILM_OK);
     expect("film_group_index_for_sample", one[0], 0);
-    expect("film_covered_samples", film_covered_samples(rows, 2 * head[2], one), FILM_OK);
+    expect("film_covered_samples", film_covered_samples(rows, FILM_ROW_NUMBERS * head[FILM_TABLE_ROWS], one), FILM_OK);
     expect("film_covered_samples", one[0], 3);
 }
 
 static void writing(void) {
     /* the rows (2,1), (0,9), (1,1), (20,2): the csgp has (3,1), (20,2), counts of 8 bits and indices of 4 */
-    const uint32_t rows[8] = {2, 1, 0, 9, 1, 1, 20, 2};
+    const film_row_number rows[8] = {2, 1, 0, 9, 1, 1, 20, 2};
     const uint8_t csgp[] = {0, 0, 0, 4, 'r', 'o', 'l', 'l', 0, 0, 0, 2, 0x10, 0x31, 0x14, 0x12};
-    const uint32_t over[4] = {4294967295u, 1, 1, 1};
+    const film_row_number over[4] = {4294967295u, 1, 1, 1};
     uint8_t body[48];
-    uint32_t back[8];
+    film_row_number back[8];
     uint64_t one[1], head[3];
     memset(body, 0x77, sizeof body);
     expect("film_quote_sbgp", film_quote_sbgp(rows, 8, one), FILM_OK);
     expect("film_quote_sbgp", one[0], 44);
-    expect("film_write_sbgp", film_write_sbgp(0x726f6c6c, rows, 8, 43, body, 48, one), FILM_LENGTH_DISAGREES);
-    expect("film_write_sbgp", film_write_sbgp(0x726f6c6c, rows, 8, 44, body, 43, one), FILM_OUTPUT_SHORTER);
+    expect("film_write_sbgp", film_write_sbgp(FILM_TYPE_ROLL, rows, 8, 43, body, 48, one), FILM_LENGTH_DISAGREES);
+    expect("film_write_sbgp", film_write_sbgp(FILM_TYPE_ROLL, rows, 8, 44, body, 43, one), FILM_OUTPUT_SHORTER);
     expect("film_write_sbgp", body[0], 0x77);
-    expect("film_write_sbgp", film_write_sbgp(0x726f6c6c, rows, 8, 44, body, 48, one), FILM_OK);
+    expect("film_write_sbgp", film_write_sbgp(FILM_TYPE_ROLL, rows, 8, 44, body, 48, one), FILM_OK);
     expect("film_write_sbgp", one[0], 44);
     expect("film_write_sbgp", body[44], 0x77);
     expect("film_write_sbgp", film_parse_sbgp(body, 44, back, 8, head), FILM_OK);
@@ -115,11 +118,11 @@ static void writing(void) {
     expect("film_quote_csgp", film_quote_csgp(over, 4, one), FILM_ROW_COUNT_OVER);
     expect("film_quote_csgp", film_quote_csgp(rows, 8, one), FILM_OK);
     expect("film_quote_csgp", one[0], sizeof csgp);
-    expect("film_write_csgp", film_write_csgp(0x726f6c6c, over, 4, 16, body, 48, one), FILM_ROW_COUNT_OVER);
-    expect("film_write_csgp", film_write_csgp(0x726f6c6c, rows, 8, 17, body, 48, one), FILM_LENGTH_DISAGREES);
-    expect("film_write_csgp", film_write_csgp(0x726f6c6c, rows, 8, 16, body, 15, one), FILM_OUTPUT_SHORTER);
+    expect("film_write_csgp", film_write_csgp(FILM_TYPE_ROLL, over, 4, 16, body, 48, one), FILM_ROW_COUNT_OVER);
+    expect("film_write_csgp", film_write_csgp(FILM_TYPE_ROLL, rows, 8, 17, body, 48, one), FILM_LENGTH_DISAGREES);
+    expect("film_write_csgp", film_write_csgp(FILM_TYPE_ROLL, rows, 8, 16, body, 15, one), FILM_OUTPUT_SHORTER);
     expect("film_write_csgp", body[0], 0x77);
-    expect("film_write_csgp", film_write_csgp(0x726f6c6c, rows, 8, 16, body, 48, one), FILM_OK);
+    expect("film_write_csgp", film_write_csgp(FILM_TYPE_ROLL, rows, 8, 16, body, 48, one), FILM_OK);
     expect("film_write_csgp", memcmp(body, csgp, sizeof csgp) == 0, 1);
     expect("film_write_csgp", body[16], 0x77);
 }
@@ -127,7 +130,7 @@ static void writing(void) {
 static void descriptions(void) {
     const uint8_t *sgpd = film + 74;
     uint64_t head[5], place[2], split[2], part[3];
-    const uint64_t want[5] = {1, 0x726f6c6c, 2, 0, 1};
+    const uint64_t want[5] = {1, FILM_TYPE_ROLL, 2, 0, 1};
     expect("film_parse_sgpd", film_parse_sgpd(sgpd, 18, head), FILM_OK);
     expect_all("film_parse_sgpd", head, want, 5);
     expect("film_entry_place", film_entry_place(sgpd, 18, 1, place), FILM_OK);
@@ -199,9 +202,9 @@ static void entries(void) {
     expect("film_alst_piece", out[0] * 1000 + out[1], 4005);
     /* the middle bits of a "sap " do not count */
     static const uint8_t other[] = {0xf3};
-    expect("film_decode_alike", film_decode_alike(0x73617020, bits, 1, other, 1, out), FILM_OK);
+    expect("film_decode_alike", film_decode_alike(FILM_TYPE_SAP, bits, 1, other, 1, out), FILM_OK);
     expect("film_decode_alike", out[0], 1);
-    expect("film_decode_alike", film_decode_alike(0x72617020, bits, 1, other, 1, out), FILM_OK);
+    expect("film_decode_alike", film_decode_alike(FILM_TYPE_RAP, bits, 1, other, 1, out), FILM_OK);
     expect("film_decode_alike", out[0], 0);
 }
 
@@ -209,22 +212,22 @@ static void listing(void) {
     /* the stbl of the film without its csgp: 62 bytes */
     uint8_t body[62], output[16];
     static const uint8_t want[] = {0x72, 0x6f, 0x6c, 0x6c, 0x03, 0x02, 0x02, 0xfe, 0xff, 0x01, 0x01, 0x00};
-    uint32_t rows[6];
+    film_row_number rows[6];
     uint64_t lengths[2];
     memcpy(body, film + 8, 36);
     memcpy(body + 36, film + 66, 26);
     memset(output, 0x77, sizeof output);
     memset(rows, 0x77, sizeof rows);
-    expect("film_cue_listing", film_cue_listing(body, 62, 0x726f6c6c, rows, 6, output, 11, lengths), FILM_OUTPUT_TOO_SHORT);
-    expect("film_cue_listing", film_cue_listing(body, 62, 0x726f6c6c, rows, 3, output, 16, lengths), FILM_NO_RECORD_LEFT);
-    expect("film_cue_listing", film_cue_listing(body, 62, 0x72617020, rows, 6, output, 16, lengths), FILM_NO_TABLE);
-    expect("film_cue_listing", film_cue_listing(body, 36, 0x726f6c6c, rows, 6, output, 16, lengths), FILM_NO_SGPD);
-    expect("film_cue_listing", film_cue_listing(film + 8, 84, 0x726f6c6c, rows, 6, output, 16, lengths), FILM_SECOND_TABLE);
+    expect("film_cue_listing", film_cue_listing(body, 62, FILM_TYPE_ROLL, rows, 6, output, 11, lengths), FILM_OUTPUT_TOO_SHORT);
+    expect("film_cue_listing", film_cue_listing(body, 62, FILM_TYPE_ROLL, rows, 3, output, 16, lengths), FILM_NO_RECORD_LEFT);
+    expect("film_cue_listing", film_cue_listing(body, 62, FILM_TYPE_RAP, rows, 6, output, 16, lengths), FILM_NO_TABLE);
+    expect("film_cue_listing", film_cue_listing(body, 36, FILM_TYPE_ROLL, rows, 6, output, 16, lengths), FILM_NO_SGPD);
+    expect("film_cue_listing", film_cue_listing(film + 8, 84, FILM_TYPE_ROLL, rows, 6, output, 16, lengths), FILM_SECOND_TABLE);
     expect("film_cue_listing", rows[0], 0x77777777);
     expect("film_cue_listing", output[0], 0x77);
-    expect("film_cue_listing", film_cue_listing(body, 62, 0x726f6c6c, rows, 6, output, 16, lengths), FILM_OK);
-    expect("film_cue_listing", lengths[0], sizeof want);
-    expect("film_cue_listing", lengths[1], 2);
+    expect("film_cue_listing", film_cue_listing(body, 62, FILM_TYPE_ROLL, rows, 6, output, 16, lengths), FILM_OK);
+    expect("film_cue_listing", lengths[FILM_LISTING_LENGTH], sizeof want);
+    expect("film_cue_listing", lengths[FILM_LISTING_ROWS], 2);
     expect("film_cue_listing", memcmp(output, want, sizeof want) == 0, 1);
     expect("film_cue_listing", output[12], 0x77);
     expect("film_cue_listing", rows[0] == 2 && rows[1] == 1 && rows[2] == 1 && rows[3] == 0, 1);
@@ -246,12 +249,12 @@ static void listing(void) {
     expect("film_find_stbl", film_find_stbl(movie, sizeof movie, 1, lengths), FILM_NO_TRACK);
     expect("film_find_stbl", film_find_stbl(movie, sizeof movie - 1, 0, lengths), FILM_BODY_CUT);
     memset(output, 0x77, sizeof output);
-    expect("film_file_cue_listing", film_file_cue_listing(movie, sizeof movie, 0, 0x726f6c6c, rows, 6, output, 16, lengths), FILM_OK);
-    expect("film_file_cue_listing", lengths[0], sizeof want);
+    expect("film_file_cue_listing", film_file_cue_listing(movie, sizeof movie, 0, FILM_TYPE_ROLL, rows, 6, output, 16, lengths), FILM_OK);
+    expect("film_file_cue_listing", lengths[FILM_LISTING_LENGTH], sizeof want);
     expect("film_file_cue_listing", memcmp(output, want, sizeof want) == 0, 1);
     expect("film_file_cue_listing", output[12], 0x77);
     movie[39] = 'x';
-    expect("film_file_cue_listing", film_file_cue_listing(movie, sizeof movie, 0, 0x726f6c6c, rows, 6, output, 16, lengths), FILM_NO_CONTAINER);
+    expect("film_file_cue_listing", film_file_cue_listing(movie, sizeof movie, 0, FILM_TYPE_ROLL, rows, 6, output, 16, lengths), FILM_NO_CONTAINER);
 }
 
 static void starts(void) {
@@ -305,6 +308,7 @@ int main(void) {
     entries();
     listing();
     starts();
+    all_null_cases();
     if (failures == 0) {
         puts("film_index.h: every call gave its answer");
     }

@@ -8,7 +8,7 @@
 /* One answer: its status and, where that is FILM_OK, n numbers; beside it what document 01 gives. */
 static void starred(const char *name, uint32_t status, uint32_t want, unsigned n, const uint64_t *numbers, const uint64_t *expected);
 
-static uint32_t starred_rows[10];
+static film_row_number starred_rows[10];
 static uint8_t starred_listing[12];
 
 /* What stands in the lent memory behind a call. */
@@ -21,7 +21,7 @@ static void starred_memory(const char *name, unsigned n, const uint64_t *expecte
 static uint64_t starred_row_number(unsigned k) { return starred_rows[k]; }
 static uint64_t starred_byte(unsigned k) { return starred_listing[k]; }
 
-static uint32_t *starred_sevens(void) {
+static film_row_number *starred_sevens(void) {
     for (unsigned k = 0; k < sizeof starred_rows / sizeof *starred_rows; k++) starred_rows[k] = 7;
     for (unsigned k = 0; k < sizeof starred_listing; k++) starred_listing[k] = 7;
     return starred_rows;

@@ -9,35 +9,74 @@
  * Without FILM_OK nothing is written: `out`, rows, a listing, a body and every other lent byte stay as they were. No refusal is 0 or 255.
  * film_rate_of_point cannot fail and returns its value; film_split_csgp_index cannot fail and returns nothing.
  *
- * Lent memory. `out` has the length that the declaration names. What one call is lent must not overlap where any of it is written. A pointer whose
- * length is 0 is not read: it may dangle, but it must not be null.
+ * Lent memory. `out` has the length that the declaration names; enums below name its positions. What one call is lent must not overlap where any of it is
+ * written. A pointer whose length is 0 is not read: it may be null, as an empty std::vector hands it out, or dangle.
  *
  * Limits. An input of more than FILM_INPUT_LIMIT bytes is refused before anything else (FILM_INPUT_TOO_LONG). A run of rows that is read may have
  * FILM_RECORD_LIMIT records, else the same refusal; a run or an output lent only to be filled has no limit.
  *
  * Two inputs. FILM_INPUT_TOO_LONG of either comes first; then the refusals of the first input, then those of the second.
  *
- * A type is its four bytes as one big-endian number: "roll" is 0x726f6c6c.
+ * A type is its four bytes as one big-endian number: "roll" is FILM_TYPE_ROLL, 0x726f6c6c.
+ *
+ * A film of any length. The calls on films take the front of a film up to FILM_INPUT_LIMIT bytes, and need the moov alone. To find it, read 16 bytes of the file at a
+ * place, give them to film_read_atom_header with `at` 0, and go on by the total size until the type is FILM_TYPE_MOOV; then lend the bytes of that atom, its header
+ * first, as the film. (docs/FILMS.md has the loop.)
  */
 #ifndef FILM_INDEX_H
 #define FILM_INDEX_H
 
-#include <stddef.h>
 #include <stdint.h>
 
 #ifdef __cplusplus
 extern "C" {
 #endif
 
-/* A length. The library counts with 64 bits everywhere: on x86-64 this is size_t, and where size_t has 32 bits (the archive for the controller) it is uint64_t. */
-#if SIZE_MAX == UINT64_MAX
-typedef size_t film_size;
-#else
+/* The version of this interface. It is raised where a declaration changes that a caller has compiled. */
+#define FILM_INDEX_VERSION 1u
+
+/* A length: 64 bits on every machine, also where size_t has 32 (the archive for the controller). */
 typedef uint64_t film_size;
-#endif
+
+/* A sample's number, counted from 0, and a number of a run of rows. A row takes FILM_ROW_NUMBERS of them: a sample count and a description index. */
+typedef uint32_t film_sample;
+typedef uint32_t film_row_number;
+#define FILM_ROW_NUMBERS 2u
 
 #define FILM_INPUT_LIMIT 67108864u /* bytes */
-#define FILM_RECORD_LIMIT 8388608u /* records, two numbers each */
+#define FILM_RECORD_LIMIT 8388608u /* records of a run */
+
+/* Grouping types with a decoder, and the atoms that are named here */
+#define FILM_TYPE_ROLL 0x726f6c6cu
+#define FILM_TYPE_PROL 0x70726f6cu
+#define FILM_TYPE_RAP 0x72617020u  /* "rap " */
+#define FILM_TYPE_TELE 0x74656c65u
+#define FILM_TYPE_SAP 0x73617020u  /* "sap " */
+#define FILM_TYPE_RASH 0x72617368u
+#define FILM_TYPE_ALST 0x616c7374u
+#define FILM_TYPE_MOOV 0x6d6f6f76u
+#define FILM_TYPE_SBGP 0x73626770u
+#define FILM_TYPE_CSGP 0x63736770u
+#define FILM_TYPE_SGPD 0x73677064u
+#define FILM_TYPE_STSS 0x73747373u
+#define FILM_TYPE_SDTP 0x73647470u
+
+/* Positions in `out` */
+enum film_header_out { FILM_HEADER_TYPE, FILM_HEADER_OPEN, FILM_HEADER_SIZE, FILM_HEADER_LENGTH, FILM_HEADER_BODY };
+enum film_child_out { FILM_CHILD_NEXT, FILM_CHILD_HEADER }; /* the five numbers of the header begin at the second */
+enum film_place_out { FILM_PLACE, FILM_PLACE_LENGTH };     /* a body, a payload, an entry */
+enum film_table_out { FILM_TABLE_TYPE, FILM_TABLE_PARAMETER, FILM_TABLE_ROWS };
+enum film_sgpd_out { FILM_SGPD_VERSION, FILM_SGPD_TYPE, FILM_SGPD_DEFAULT_LENGTH, FILM_SGPD_DEFAULT_INDEX, FILM_SGPD_ENTRIES };
+enum film_rap_out { FILM_RAP_KNOWN, FILM_RAP_LEADING };
+enum film_sap_out { FILM_SAP_DEPENDENT, FILM_SAP_TYPE };
+enum film_rash_out { FILM_RASH_POINTS, FILM_RASH_MAXIMUM, FILM_RASH_MINIMUM, FILM_RASH_PRIORITY };
+enum film_point_out { FILM_POINT_BITRATE, FILM_POINT_SHARE };
+enum film_alst_out { FILM_ALST_ROLLS, FILM_ALST_FIRST_OUTPUT, FILM_ALST_PIECES };
+enum film_piece_out { FILM_PIECE_OUTPUT, FILM_PIECE_TOTAL };
+enum film_split_out { FILM_SPLIT_INDEX, FILM_SPLIT_LOCAL };
+enum film_described_out { FILM_DESCRIBED_LOCAL, FILM_DESCRIBED_PLACE, FILM_DESCRIBED_LENGTH };
+enum film_dependency_out { FILM_IS_LEADING, FILM_DEPENDS_ON, FILM_IS_DEPENDED_ON, FILM_HAS_REDUNDANCY };
+enum film_listing_out { FILM_LISTING_LENGTH, FILM_LISTING_ROWS };
 
 #define FILM_OK 0u
 #define FILM_NONE 255u
@@ -110,58 +149,63 @@ uint32_t film_read_atom_header(const uint8_t *s, film_size len, uint64_t at, uin
  * begins (an open-ended one whose header crosses its parent's end), and where no end is known it may pass the input; the next call then says FILM_NONE. */
 uint32_t film_next_child(const uint8_t *s, film_size len, uint64_t at, uint32_t known, uint64_t end, uint64_t out[6]);
 
-/* The body of the atom whose header stands at place `at`. out: place and length of the body. The header's refusals come first. */
+/* The body of the atom whose header stands at place `at`; FILM_NONE where no byte stands there. out: place and length of the body.
+ * Refusals, in order: the header's; FILM_OPEN_BODY; FILM_BODY_OVER_LIMIT; FILM_BODY_CUT. */
 uint32_t film_read_payload(const uint8_t *s, film_size len, uint64_t at, uint64_t out[2]);
 
-/* The same where the body may have at most `max_remaining` bytes. */
+/* The same where the body may have at most `max_remaining` bytes: FILM_BODY_OVER_ENVELOPE comes directly after FILM_OPEN_BODY. */
 uint32_t film_read_payload_bounded(const uint8_t *s, film_size len, uint64_t at, uint64_t max_remaining, uint64_t out[2]);
 
 /* The body of the stbl of track number `track`, counted from 0, in the front of a film: in the first moov that trak, in it the first mdia, in that the first minf, in
  * that the first stbl. Each of them is walked to its end before the one that was found in it is used, so that a fault behind it wins. At the top an atom may pass the
- * given bytes, but the first moov, if it does, is FILM_BODY_CUT. An open-ended atom ends where its parent does, or the given bytes at the top.
- * out: place and length of the body. */
+ * given bytes, but the first moov, if it does, is FILM_BODY_CUT. Headers are read from all the given bytes, past a parent's end too. An open-ended atom ends where its
+ * parent does, or the given bytes at the top; where its header crosses that end, it is empty, and its place is behind its header.
+ *
+ * Refusals, level by level: those of the walk over that level; then FILM_NO_TRACK (no moov, or no such trak) or FILM_NO_CONTAINER (below the trak); at the top last
+ * FILM_BODY_CUT. It is never FILM_NONE. out: place and length of the body. */
 uint32_t film_find_stbl(const uint8_t *s, film_size len, uint32_t track, uint64_t out[2]);
 
-/* Sample tables. `s` is the payload of an sbgp or a csgp. `rows` is a run of `rows_len` numbers, two for each record: a sample count and a description index. So
- * rows_len is twice the number of records, and after n rows were written, lookups over them take 2 * n; a last number without a partner is no record. With FILM_OK the
- * rows stand in front of the run and the numbers behind them stay. */
+/* Sample tables. `s` is the payload of an sbgp or a csgp. `rows` is a run of `rows_len` numbers, FILM_ROW_NUMBERS for each record: a sample count and a description
+ * index. After n rows were written, lookups over them take a rows_len of FILM_ROW_NUMBERS * n; numbers at the end that are no whole record are not used. With FILM_OK
+ * the rows stand in front of the run and the numbers behind them stay. */
 
 /* The rows of an sbgp payload, as they are. out: grouping type, parameter (0 if absent), row count. */
-uint32_t film_parse_sbgp(const uint8_t *s, film_size len, uint32_t *rows, film_size rows_len, uint64_t out[3]);
+uint32_t film_parse_sbgp(const uint8_t *s, film_size len, film_row_number *rows, film_size rows_len, uint64_t out[3]);
 
 /* The rows of a csgp payload: its patterns replayed over their samples, equal neighbours joined. out as for sbgp. */
-uint32_t film_parse_csgp(const uint8_t *s, film_size len, uint32_t *rows, film_size rows_len, uint64_t out[3]);
+uint32_t film_parse_csgp(const uint8_t *s, film_size len, film_row_number *rows, film_size rows_len, uint64_t out[3]);
 
-/* The number of rows that an sbgp payload needs. out: that number, n. film_parse_sbgp then takes rows_len 2 * n or more; with fewer than n records it answers
+/* The number of rows that an sbgp payload needs. out: that number, n. film_parse_sbgp then takes n records or more; with fewer it answers
  * FILM_NO_RECORD_LEFT. The refusals are those of film_parse_sbgp, but never FILM_NO_RECORD_LEFT. */
 uint32_t film_sbgp_rows_needed(const uint8_t *s, film_size len, uint64_t out[1]);
 
 /* The same for a csgp payload and film_parse_csgp. */
 uint32_t film_csgp_rows_needed(const uint8_t *s, film_size len, uint64_t out[1]);
 
-/* The description index (counted from 1, 0: none) of a sample (counted from 0). out: the index; 0 past the last row. */
-uint32_t film_group_index_for_sample(const uint32_t *rows, film_size rows_len, uint32_t sample, uint64_t out[1]);
+/* The description index (counted from 1) of a sample (counted from 0). out: the index; 0 where the sample belongs to no group, and past the last row:
+ * film_covered_samples tells the two apart. */
+uint32_t film_group_index_for_sample(const film_row_number *rows, film_size rows_len, film_sample sample, uint64_t out[1]);
 
 /* The number of samples that the rows cover. out: the sum. */
-uint32_t film_covered_samples(const uint32_t *rows, film_size rows_len, uint64_t out[1]);
+uint32_t film_covered_samples(const film_row_number *rows, film_size rows_len, uint64_t out[1]);
 
 /* Tables written. `rows` is a run of numbers as above, which is only read. A body is written in two calls: a quote of its exact length, and a write that takes that length. Version
  * and flags but the codes of a csgp are 0, and there is no parameter. Up to FILM_INPUT_LIMIT bytes a written sbgp reads back to the same rows, and a written csgp to the same
  * index at every sample and the same total, with records enough. */
 
 /* The length of the sbgp that holds the rows as given. out: the length in bytes. */
-uint32_t film_quote_sbgp(const uint32_t *rows, film_size rows_len, uint64_t out[1]);
+uint32_t film_quote_sbgp(const film_row_number *rows, film_size rows_len, uint64_t out[1]);
 
 /* The length of the csgp that gives the same samples: rows of count 0 are dropped and like neighbours joined, each row that remains is a pattern of length 1, and the
  * widths are the narrowest that hold the largest count and the largest index. FILM_ROW_COUNT_OVER where a joined count is too large. out: the length in bytes. */
-uint32_t film_quote_csgp(const uint32_t *rows, film_size rows_len, uint64_t out[1]);
+uint32_t film_quote_csgp(const film_row_number *rows, film_size rows_len, uint64_t out[1]);
 
 /* Writes that sbgp in front of the `body_len` bytes of `body`; what stands behind it stays. `quoted` is the quoted length: FILM_LENGTH_DISAGREES where the rows need another one,
  * then FILM_OUTPUT_SHORTER where the output is shorter. out: the length. */
-uint32_t film_write_sbgp(uint32_t grouping_type, const uint32_t *rows, film_size rows_len, film_size quoted, uint8_t *body, film_size body_len, uint64_t out[1]);
+uint32_t film_write_sbgp(uint32_t grouping_type, const film_row_number *rows, film_size rows_len, film_size quoted, uint8_t *body, film_size body_len, uint64_t out[1]);
 
 /* The same for the csgp; FILM_ROW_COUNT_OVER comes first. */
-uint32_t film_write_csgp(uint32_t grouping_type, const uint32_t *rows, film_size rows_len, film_size quoted, uint8_t *body, film_size body_len, uint64_t out[1]);
+uint32_t film_write_csgp(uint32_t grouping_type, const film_row_number *rows, film_size rows_len, film_size quoted, uint8_t *body, film_size body_len, uint64_t out[1]);
 
 /* Group descriptions. `s` is the payload of an sgpd. */
 
@@ -211,13 +255,13 @@ uint64_t film_rate_of_point(uint32_t bitrate, uint16_t share);
 /* Sync and dependency tables. `s` is the body of an stss or of an sdtp. A sample is counted from 0. Each call checks all numbers of an stss. */
 
 /* out: 1 where the sample is a sync sample of the stss, else 0. */
-uint32_t film_is_sync_sample(const uint8_t *s, film_size len, uint32_t sample, uint64_t out[1]);
+uint32_t film_is_sync_sample(const uint8_t *s, film_size len, film_sample sample, uint64_t out[1]);
 
 /* The last sync sample at or before `frame`; FILM_NONE where there is none. out: the sample. */
-uint32_t film_last_sync_sample(const uint8_t *s, film_size len, uint32_t frame, uint64_t out[1]);
+uint32_t film_last_sync_sample(const uint8_t *s, film_size len, film_sample frame, uint64_t out[1]);
 
 /* What the sdtp says of a sample; FILM_NONE past its last byte. out: is leading, depends on, is depended on, has redundancy, 0 to 3 each. */
-uint32_t film_sample_dependency(const uint8_t *s, film_size len, uint32_t sample, uint64_t out[4]);
+uint32_t film_sample_dependency(const uint8_t *s, film_size len, film_sample sample, uint64_t out[4]);
 
 /* Cue listing. */
 
@@ -232,10 +276,10 @@ uint32_t film_sample_dependency(const uint8_t *s, film_size len, uint32_t sample
  * Refusals, in order: those of the walk over the children, as it meets them (FILM_OPEN_BODY, FILM_SHORT_TABLE or FILM_SHORT_SGPD of an sbgp, a csgp or an sgpd of any
  * type; a second table, a second sgpd of this type); FILM_NO_TABLE; FILM_NO_SGPD; the table's; the sgpd's; the decoder's, for the entries of samples, in their order;
  * FILM_OUTPUT_TOO_SHORT. */
-uint32_t film_cue_listing(const uint8_t *body, film_size len, uint32_t grouping_type, uint32_t *rows, film_size rows_len, uint8_t *listing, film_size listing_len, uint64_t out[2]);
+uint32_t film_cue_listing(const uint8_t *body, film_size len, uint32_t grouping_type, film_row_number *rows, film_size rows_len, uint8_t *listing, film_size listing_len, uint64_t out[2]);
 
 /* The same for a track of a film: the refusals of film_find_stbl, else the cue listing of the body that it finds. */
-uint32_t film_file_cue_listing(const uint8_t *s, film_size len, uint32_t track, uint32_t grouping_type, uint32_t *rows, film_size rows_len, uint8_t *listing, film_size listing_len, uint64_t out[2]);
+uint32_t film_file_cue_listing(const uint8_t *s, film_size len, uint32_t track, uint32_t grouping_type, film_row_number *rows, film_size rows_len, uint8_t *listing, film_size listing_len, uint64_t out[2]);
 
 /* Where decoding begins. */
 
@@ -246,10 +290,10 @@ uint32_t film_file_cue_listing(const uint8_t *s, film_size len, uint32_t track, 
  *
  * Refusals, in order: those of film_cue_listing up to the sgpd's, but never FILM_NO_RECORD_LEFT; FILM_FRAME_NOT_COVERED; the decoder's, for the entries of the samples up
  * to the frame, in their order. */
-uint32_t film_roll_start(const uint8_t *body, film_size len, uint32_t frame, uint64_t out[1]);
+uint32_t film_roll_start(const uint8_t *body, film_size len, film_sample frame, uint64_t out[1]);
 
 /* The same by the group "rap ": a sample of an entry begins and is clean at itself. */
-uint32_t film_rap_start(const uint8_t *body, film_size len, uint32_t frame, uint64_t out[1]);
+uint32_t film_rap_start(const uint8_t *body, film_size len, film_sample frame, uint64_t out[1]);
 
 #ifdef __cplusplus
 }

@@ -2,19 +2,30 @@
 //! Only `core` is used. Add this file as a module and link libfilm_index.a.
 //!
 //! Nothing is allocated: bodies and entries are parts of the input, rows stand in a slice that the caller lends, and points, offsets and pieces are read by number.
+//! Lengths have 64 bits in the library on every machine, so `raw` takes them as u64, also where usize has 32. A pointer whose length is 0 may be null or dangle.
+#![allow(dead_code)] // a program may use a part of it
 
+/// The version of the interface: FILM_INDEX_VERSION of the header that this module was written for.
+pub const VERSION: u32 = 1;
 /// The longest input, in bytes.
 pub const INPUT_LIMIT: usize = 67_108_864;
 /// The longest slice of rows that a lookup reads.
 pub const RECORD_LIMIT: usize = 8_388_608;
 
+/// A sample's number, counted from 0, and the samples that a row covers.
+pub type Sample = u32;
+/// A number of a run of rows, as C has it.
+pub type RowNumber = u32;
+/// How many of them a row takes.
+pub const ROW_NUMBERS: usize = size_of::<SampleToGroupEntry>() / size_of::<RowNumber>();
+
 macro_rules! refusals {
-    ($($(#[$note:meta])* $name:ident = $number:literal,)*) => {
+    ($($name:ident = $number:literal $text:literal,)*) => {
         /// Why an input is refused; `number` is the status of the C interface.
         #[derive(Clone, Copy, Debug, PartialEq, Eq)]
         #[repr(u32)]
         pub enum Refusal {
-            $($(#[$note])* $name = $number,)*
+            $(#[doc = $text] $name = $number,)*
         }
 
         impl Refusal {
@@ -26,57 +37,64 @@ macro_rules! refusals {
                     _ => panic!("a status that film_index.h does not name"),
                 }
             }
+
+            /// The reason in words.
+            pub fn reason(self) -> &'static str {
+                match self {
+                    $(Refusal::$name => $text,)*
+                }
+            }
         }
     };
 }
 
 refusals! {
-    HeaderCut = 1,
-    ExtendedSizeCut = 2,
-    SmallSize = 3,
-    SmallExtendedSize = 4,
-    FarEnd = 5,
-    ChildPastParent = 6,
-    OpenChild = 7,
-    OpenBody = 8,
-    BodyOverLimit = 9,
-    BodyOverEnvelope = 10,
-    BodyCut = 11,
-    ShortTable = 20,
-    NoParameter = 21,
-    NoCount = 22,
-    RowsCut = 23,
-    PatternLengthCut = 24,
-    PatternCountCut = 25,
-    PatternLengthZero = 26,
-    IndexCut = 27,
-    RowCountOver = 28,
-    NoRecordLeft = 29,
-    ShortSgpd = 30,
-    NoDefaultIndex = 31,
-    NoEntryCount = 32,
-    NoEntryLength = 33,
-    ZeroShare = 34,
-    EntryCut = 35,
-    ShortEntry = 40,
-    NoPoints = 41,
-    PointCut = 42,
-    TrailerCut = 43,
-    OffsetsCut = 44,
-    PiecesCut = 45,
-    NoTable = 50,
-    SecondTable = 51,
-    NoSgpd = 52,
-    SecondSgpd = 53,
-    OutputTooShort = 54,
-    InputTooLong = 55,
-    NoTrack = 60,
-    NoContainer = 61,
-    FrameNotCovered = 62,
-    LengthDisagrees = 63,
-    OutputShorter = 64,
-    SyncTableCut = 65,
-    SyncNotRising = 66,
+    HeaderCut = 1 "1 to 7 bytes where a header stands",
+    ExtendedSizeCut = 2 "the 64-bit size is incomplete",
+    SmallSize = 3 "a size of 2 to 7",
+    SmallExtendedSize = 4 "a 64-bit size below 16",
+    FarEnd = 5 "place plus size over 2^64 - 1",
+    ChildPastParent = 6 "a child ends past its parent",
+    OpenChild = 7 "an open-ended child of a parent whose end is not known",
+    OpenBody = 8 "the body of an open-ended atom",
+    BodyOverLimit = 9 "a body over 67,108,864 bytes",
+    BodyOverEnvelope = 10 "a body over the envelope",
+    BodyCut = 11 "bytes of the body are missing",
+    ShortTable = 20 "a table under 8 bytes",
+    NoParameter = 21 "the parameter is missing",
+    NoCount = 22 "the count is missing",
+    RowsCut = 23 "rows of the sbgp are missing",
+    PatternLengthCut = 24 "a pattern's length is cut",
+    PatternCountCut = 25 "a pattern's count is cut",
+    PatternLengthZero = 26 "a pattern's length is 0",
+    IndexCut = 27 "an index is cut",
+    RowCountOver = 28 "a row would cover more than 4,294,967,295 samples",
+    NoRecordLeft = 29 "more rows, entries or points than records were lent",
+    ShortSgpd = 30 "an sgpd under 12 bytes, in the walk of a cue listing under 8",
+    NoDefaultIndex = 31 "the default index is missing",
+    NoEntryCount = 32 "the entry count is missing",
+    NoEntryLength = 33 "the length of an entry is missing",
+    ZeroShare = 34 "no byte is left for an entry",
+    EntryCut = 35 "bytes of an entry are missing",
+    ShortEntry = 40 "an entry too short for its type",
+    NoPoints = 41 "a rash without points",
+    PointCut = 42 "a point of a rash is cut",
+    TrailerCut = 43 "the trailer of a rash is cut",
+    OffsetsCut = 44 "the offsets of an alst are cut",
+    PiecesCut = 45 "the tail of an alst is not a multiple of 4",
+    NoTable = 50 "no sbgp and no csgp of the type",
+    SecondTable = 51 "a second table of the type",
+    NoSgpd = 52 "no sgpd of the type",
+    SecondSgpd = 53 "a second sgpd of the type",
+    OutputTooShort = 54 "the listing is longer than the output",
+    InputTooLong = 55 "an input or a run of rows over the limit",
+    NoTrack = 60 "no moov, or no such trak in the first one",
+    NoContainer = 61 "no mdia, minf or stbl on the way to the table",
+    FrameNotCovered = 62 "the table covers fewer samples than the frame's number",
+    LengthDisagrees = 63 "the rows need another length than the quoted one",
+    OutputShorter = 64 "the output is shorter than the quoted length",
+    SyncTableCut = 65 "bytes of an stss or an sdtp are missing",
+    SyncNotRising = 66 "the sample numbers of an stss do not rise, or one is 0",
 }
 
 impl Refusal {
@@ -85,70 +103,80 @@ impl Refusal {
     }
 }
 
+impl core::fmt::Display for Refusal {
+    fn fmt(&self, f: &mut core::fmt::Formatter<'_>) -> core::fmt::Result {
+        write!(f, "refused ({}): {}", self.number(), self.reason())
+    }
+}
+
+impl core::error::Error for Refusal {}
+
 pub type Result<T> = core::result::Result<T, Refusal>;
 
 /// The functions as C has them.
 pub mod raw {
+    use super::{RowNumber, Sample};
+
     unsafe extern "C" {
-        pub fn film_read_atom_header(s: *const u8, len: usize, at: u64, out: *mut [u64; 5]) -> u32;
-        pub fn film_next_child(s: *const u8, len: usize, at: u64, known: u32, end: u64, out: *mut [u64; 6]) -> u32;
-        pub fn film_read_payload(s: *const u8, len: usize, at: u64, out: *mut [u64; 2]) -> u32;
-        pub fn film_read_payload_bounded(s: *const u8, len: usize, at: u64, max_remaining: u64, out: *mut [u64; 2]) -> u32;
-        pub fn film_find_stbl(s: *const u8, len: usize, track: u32, out: *mut [u64; 2]) -> u32;
-        pub fn film_parse_sbgp(s: *const u8, len: usize, rows: *mut u32, rows_len: usize, out: *mut [u64; 3]) -> u32;
-        pub fn film_parse_csgp(s: *const u8, len: usize, rows: *mut u32, rows_len: usize, out: *mut [u64; 3]) -> u32;
-        pub fn film_sbgp_rows_needed(s: *const u8, len: usize, out: *mut [u64; 1]) -> u32;
-        pub fn film_csgp_rows_needed(s: *const u8, len: usize, out: *mut [u64; 1]) -> u32;
-        pub fn film_group_index_for_sample(rows: *const u32, rows_len: usize, sample: u32, out: *mut [u64; 1]) -> u32;
-        pub fn film_covered_samples(rows: *const u32, rows_len: usize, out: *mut [u64; 1]) -> u32;
-        pub fn film_quote_sbgp(rows: *const u32, rows_len: usize, out: *mut [u64; 1]) -> u32;
-        pub fn film_quote_csgp(rows: *const u32, rows_len: usize, out: *mut [u64; 1]) -> u32;
-        pub fn film_write_sbgp(kind: u32, rows: *const u32, rows_len: usize, quoted: usize, body: *mut u8, body_len: usize, out: *mut [u64; 1]) -> u32;
-        pub fn film_write_csgp(kind: u32, rows: *const u32, rows_len: usize, quoted: usize, body: *mut u8, body_len: usize, out: *mut [u64; 1]) -> u32;
-        pub fn film_parse_sgpd(s: *const u8, len: usize, out: *mut [u64; 5]) -> u32;
-        pub fn film_entry_place(s: *const u8, len: usize, index: u32, out: *mut [u64; 2]) -> u32;
-        pub fn film_entry_places(s: *const u8, len: usize, places: *mut u32, places_len: usize, out: *mut [u64; 1]) -> u32;
-        pub fn film_decode_roll(s: *const u8, len: usize, out: *mut [i64; 1]) -> u32;
-        pub fn film_decode_prol(s: *const u8, len: usize, out: *mut [i64; 1]) -> u32;
-        pub fn film_decode_rap(s: *const u8, len: usize, out: *mut [u64; 2]) -> u32;
-        pub fn film_decode_tele(s: *const u8, len: usize, out: *mut [u64; 1]) -> u32;
-        pub fn film_decode_sap(s: *const u8, len: usize, out: *mut [u64; 2]) -> u32;
-        pub fn film_decode_rash(s: *const u8, len: usize, out: *mut [u64; 4]) -> u32;
-        pub fn film_rash_operation_point(s: *const u8, len: usize, k: u32, out: *mut [u64; 2]) -> u32;
-        pub fn film_rash_operation_points(s: *const u8, len: usize, points: *mut u32, points_len: usize, out: *mut [u64; 1]) -> u32;
-        pub fn film_decode_alst(s: *const u8, len: usize, out: *mut [u64; 3]) -> u32;
-        pub fn film_alst_sample_offset(s: *const u8, len: usize, k: u32, out: *mut [u64; 1]) -> u32;
-        pub fn film_alst_piece(s: *const u8, len: usize, k: u32, out: *mut [u64; 2]) -> u32;
-        pub fn film_decode_alike(kind: u32, a: *const u8, a_len: usize, b: *const u8, b_len: usize, out: *mut [u64; 1]) -> u32;
+        pub fn film_read_atom_header(s: *const u8, len: u64, at: u64, out: *mut [u64; 5]) -> u32;
+        pub fn film_next_child(s: *const u8, len: u64, at: u64, known: u32, end: u64, out: *mut [u64; 6]) -> u32;
+        pub fn film_read_payload(s: *const u8, len: u64, at: u64, out: *mut [u64; 2]) -> u32;
+        pub fn film_read_payload_bounded(s: *const u8, len: u64, at: u64, max_remaining: u64, out: *mut [u64; 2]) -> u32;
+        pub fn film_find_stbl(s: *const u8, len: u64, track: u32, out: *mut [u64; 2]) -> u32;
+        pub fn film_parse_sbgp(s: *const u8, len: u64, rows: *mut RowNumber, rows_len: u64, out: *mut [u64; 3]) -> u32;
+        pub fn film_parse_csgp(s: *const u8, len: u64, rows: *mut RowNumber, rows_len: u64, out: *mut [u64; 3]) -> u32;
+        pub fn film_sbgp_rows_needed(s: *const u8, len: u64, out: *mut [u64; 1]) -> u32;
+        pub fn film_csgp_rows_needed(s: *const u8, len: u64, out: *mut [u64; 1]) -> u32;
+        pub fn film_group_index_for_sample(rows: *const RowNumber, rows_len: u64, sample: Sample, out: *mut [u64; 1]) -> u32;
+        pub fn film_covered_samples(rows: *const RowNumber, rows_len: u64, out: *mut [u64; 1]) -> u32;
+        pub fn film_quote_sbgp(rows: *const RowNumber, rows_len: u64, out: *mut [u64; 1]) -> u32;
+        pub fn film_quote_csgp(rows: *const RowNumber, rows_len: u64, out: *mut [u64; 1]) -> u32;
+        pub fn film_write_sbgp(kind: u32, rows: *const RowNumber, rows_len: u64, quoted: u64, body: *mut u8, body_len: u64, out: *mut [u64; 1]) -> u32;
+        pub fn film_write_csgp(kind: u32, rows: *const RowNumber, rows_len: u64, quoted: u64, body: *mut u8, body_len: u64, out: *mut [u64; 1]) -> u32;
+        pub fn film_parse_sgpd(s: *const u8, len: u64, out: *mut [u64; 5]) -> u32;
+        pub fn film_entry_place(s: *const u8, len: u64, index: u32, out: *mut [u64; 2]) -> u32;
+        pub fn film_entry_places(s: *const u8, len: u64, places: *mut u32, places_len: u64, out: *mut [u64; 1]) -> u32;
+        pub fn film_decode_roll(s: *const u8, len: u64, out: *mut [i64; 1]) -> u32;
+        pub fn film_decode_prol(s: *const u8, len: u64, out: *mut [i64; 1]) -> u32;
+        pub fn film_decode_rap(s: *const u8, len: u64, out: *mut [u64; 2]) -> u32;
+        pub fn film_decode_tele(s: *const u8, len: u64, out: *mut [u64; 1]) -> u32;
+        pub fn film_decode_sap(s: *const u8, len: u64, out: *mut [u64; 2]) -> u32;
+        pub fn film_decode_rash(s: *const u8, len: u64, out: *mut [u64; 4]) -> u32;
+        pub fn film_rash_operation_point(s: *const u8, len: u64, k: u32, out: *mut [u64; 2]) -> u32;
+        pub fn film_rash_operation_points(s: *const u8, len: u64, points: *mut u32, points_len: u64, out: *mut [u64; 1]) -> u32;
+        pub fn film_decode_alst(s: *const u8, len: u64, out: *mut [u64; 3]) -> u32;
+        pub fn film_alst_sample_offset(s: *const u8, len: u64, k: u32, out: *mut [u64; 1]) -> u32;
+        pub fn film_alst_piece(s: *const u8, len: u64, k: u32, out: *mut [u64; 2]) -> u32;
+        pub fn film_decode_alike(kind: u32, a: *const u8, a_len: u64, b: *const u8, b_len: u64, out: *mut [u64; 1]) -> u32;
         pub fn film_split_csgp_index(raw: u32, out: *mut [u64; 2]);
-        pub fn film_described_place(film: *const u8, film_len: usize, fragment: *const u8, fragment_len: usize, raw: u32, out: *mut [u64; 3]) -> u32;
+        pub fn film_described_place(film: *const u8, film_len: u64, fragment: *const u8, fragment_len: u64, raw: u32, out: *mut [u64; 3]) -> u32;
         pub fn film_rate_of_point(bitrate: u32, share: u16) -> u64;
-        pub fn film_is_sync_sample(s: *const u8, len: usize, sample: u32, out: *mut [u64; 1]) -> u32;
-        pub fn film_last_sync_sample(s: *const u8, len: usize, frame: u32, out: *mut [u64; 1]) -> u32;
-        pub fn film_sample_dependency(s: *const u8, len: usize, sample: u32, out: *mut [u64; 4]) -> u32;
+        pub fn film_is_sync_sample(s: *const u8, len: u64, sample: Sample, out: *mut [u64; 1]) -> u32;
+        pub fn film_last_sync_sample(s: *const u8, len: u64, frame: Sample, out: *mut [u64; 1]) -> u32;
+        pub fn film_sample_dependency(s: *const u8, len: u64, sample: Sample, out: *mut [u64; 4]) -> u32;
         pub fn film_cue_listing(
             body: *const u8,
-            len: usize,
+            len: u64,
             grouping_type: u32,
-            rows: *mut u32,
-            rows_len: usize,
+            rows: *mut RowNumber,
+            rows_len: u64,
             listing: *mut u8,
-            listing_len: usize,
+            listing_len: u64,
             out: *mut [u64; 2],
         ) -> u32;
         pub fn film_file_cue_listing(
             s: *const u8,
-            len: usize,
+            len: u64,
             track: u32,
             grouping_type: u32,
-            rows: *mut u32,
-            rows_len: usize,
+            rows: *mut RowNumber,
+            rows_len: u64,
             listing: *mut u8,
-            listing_len: usize,
+            listing_len: u64,
             out: *mut [u64; 2],
         ) -> u32;
-        pub fn film_roll_start(body: *const u8, len: usize, frame: u32, out: *mut [u64; 1]) -> u32;
-        pub fn film_rap_start(body: *const u8, len: usize, frame: u32, out: *mut [u64; 1]) -> u32;
+        pub fn film_roll_start(body: *const u8, len: u64, frame: Sample, out: *mut [u64; 1]) -> u32;
+        pub fn film_rap_start(body: *const u8, len: u64, frame: Sample, out: *mut [u64; 1]) -> u32;
     }
 
     pub const OK: u32 = 0;
@@ -189,14 +217,14 @@ fn header([kind, open, size, header_len, payload_offset]: [u64; 5]) -> AtomHeade
 
 /// The header at a place of the input; None where no byte stands there.
 pub fn read_atom_header(s: &[u8], at: u64) -> Result<Option<AtomHeader>> {
-    Ok(call(|out| unsafe { raw::film_read_atom_header(s.as_ptr(), s.len(), at, out) })?.map(header))
+    Ok(call(|out| unsafe { raw::film_read_atom_header(s.as_ptr(), s.len() as u64, at, out) })?.map(header))
 }
 
 /// The child at a place of a container, and the place of the next one; None where the walk is done. For `walk_children`, call it from the container's first
 /// place on until it gives None.
 pub fn next_child(s: &[u8], at: u64, parent_payload_end: Option<u64>) -> Result<Option<(AtomHeader, u64)>> {
     let (known, end) = parent_payload_end.map_or((0, 0), |end| (1, end));
-    let told = call(|out| unsafe { raw::film_next_child(s.as_ptr(), s.len(), at, known, end, out) })?;
+    let told = call(|out| unsafe { raw::film_next_child(s.as_ptr(), s.len() as u64, at, known, end, out) })?;
     Ok(told.map(|[next, a, b, c, d, e]: [u64; 6]| (header([a, b, c, d, e]), next)))
 }
 
@@ -206,27 +234,32 @@ fn part(s: &[u8], place: u64, size: u64) -> &[u8] {
 
 /// The body of the atom at a place; None where no byte stands there.
 pub fn read_payload(s: &[u8], at: u64) -> Result<Option<&[u8]>> {
-    Ok(call(|out| unsafe { raw::film_read_payload(s.as_ptr(), s.len(), at, out) })?.map(|[place, size]| part(s, place, size)))
+    Ok(call(|out| unsafe { raw::film_read_payload(s.as_ptr(), s.len() as u64, at, out) })?.map(|[place, size]| part(s, place, size)))
 }
 
 /// The same where the body may have at most `max_remaining` bytes.
 pub fn read_payload_bounded(s: &[u8], at: u64, max_remaining: u64) -> Result<Option<&[u8]>> {
-    let told = call(|out| unsafe { raw::film_read_payload_bounded(s.as_ptr(), s.len(), at, max_remaining, out) })?;
+    let told = call(|out| unsafe { raw::film_read_payload_bounded(s.as_ptr(), s.len() as u64, at, max_remaining, out) })?;
     Ok(told.map(|[place, size]| part(s, place, size)))
 }
 
 /// The body of the stbl of a track, counted from 0, in the front of a film.
 pub fn find_stbl(s: &[u8], track: u32) -> Result<&[u8]> {
-    let [place, size] = value(|out| unsafe { raw::film_find_stbl(s.as_ptr(), s.len(), track, out) })?;
+    let [place, size] = value(|out| unsafe { raw::film_find_stbl(s.as_ptr(), s.len() as u64, track, out) })?;
     Ok(part(s, place, size))
 }
 
-/// A row: so many samples of one description index. A slice of rows lies in memory as the pairs of numbers that C has.
+/// A row: so many samples of one description index. A slice of rows lies in memory as the run of numbers that C has.
 #[derive(Clone, Copy, Debug, Default, PartialEq, Eq)]
 #[repr(C)]
 pub struct SampleToGroupEntry {
-    pub sample_count: u32,
+    pub sample_count: Sample,
     pub group_description_index: u32,
+}
+
+/// How many numbers of C the rows are.
+fn numbers(rows: &[SampleToGroupEntry]) -> u64 {
+    (ROW_NUMBERS * rows.len()) as u64
 }
 
 /// What a table's reader found beside the rows.
@@ -238,10 +271,10 @@ pub struct SampleToGroup {
     pub entry_count: usize,
 }
 
-type TableReader = unsafe extern "C" fn(*const u8, usize, *mut u32, usize, *mut [u64; 3]) -> u32;
+type TableReader = unsafe extern "C" fn(*const u8, u64, *mut RowNumber, u64, *mut [u64; 3]) -> u32;
 
 fn parse(reader: TableReader, payload: &[u8], rows: &mut [SampleToGroupEntry]) -> Result<SampleToGroup> {
-    let [kind, parameter, count] = value(|out| unsafe { reader(payload.as_ptr(), payload.len(), rows.as_mut_ptr().cast(), 2 * rows.len(), out) })?;
+    let [kind, parameter, count] = value(|out| unsafe { reader(payload.as_ptr(), payload.len() as u64, rows.as_mut_ptr().cast(), numbers(rows), out) })?;
     Ok(SampleToGroup { grouping_type: fourcc(kind), grouping_type_parameter: parameter as u32, entry_count: count as usize })
 }
 
@@ -255,33 +288,33 @@ pub fn parse_csgp(payload: &[u8], rows: &mut [SampleToGroupEntry]) -> Result<Sam
 
 /// How many rows `parse_sbgp` needs to be lent for a payload; with fewer it answers `NoRecordLeft`, which is never the answer here.
 pub fn sbgp_rows_needed(payload: &[u8]) -> Result<u64> {
-    let [count] = value(|out| unsafe { raw::film_sbgp_rows_needed(payload.as_ptr(), payload.len(), out) })?;
+    let [count] = value(|out| unsafe { raw::film_sbgp_rows_needed(payload.as_ptr(), payload.len() as u64, out) })?;
     Ok(count)
 }
 
 /// The same for `parse_csgp`.
 pub fn csgp_rows_needed(payload: &[u8]) -> Result<u64> {
-    let [count] = value(|out| unsafe { raw::film_csgp_rows_needed(payload.as_ptr(), payload.len(), out) })?;
+    let [count] = value(|out| unsafe { raw::film_csgp_rows_needed(payload.as_ptr(), payload.len() as u64, out) })?;
     Ok(count)
 }
 
 /// The exact length of the sbgp that holds the rows.
 pub fn quote_sbgp(rows: &[SampleToGroupEntry]) -> Result<usize> {
-    let [length] = value(|out| unsafe { raw::film_quote_sbgp(rows.as_ptr().cast(), 2 * rows.len(), out) })?;
+    let [length] = value(|out| unsafe { raw::film_quote_sbgp(rows.as_ptr().cast(), numbers(rows), out) })?;
     Ok(length as usize)
 }
 
 /// The exact length of the csgp that gives the same samples.
 pub fn quote_csgp(rows: &[SampleToGroupEntry]) -> Result<usize> {
-    let [length] = value(|out| unsafe { raw::film_quote_csgp(rows.as_ptr().cast(), 2 * rows.len(), out) })?;
+    let [length] = value(|out| unsafe { raw::film_quote_csgp(rows.as_ptr().cast(), numbers(rows), out) })?;
     Ok(length as usize)
 }
 
-type TableWriter = unsafe extern "C" fn(u32, *const u32, usize, usize, *mut u8, usize, *mut [u64; 1]) -> u32;
+type TableWriter = unsafe extern "C" fn(u32, *const RowNumber, u64, u64, *mut u8, u64, *mut [u64; 1]) -> u32;
 
 fn write(writer: TableWriter, grouping_type: [u8; 4], rows: &[SampleToGroupEntry], quoted: usize, body: &mut [u8]) -> Result<usize> {
-    let (kind, run, numbers) = (u32::from_be_bytes(grouping_type), rows.as_ptr().cast(), 2 * rows.len());
-    let [length] = value(|out| unsafe { writer(kind, run, numbers, quoted, body.as_mut_ptr(), body.len(), out) })?;
+    let (kind, run, numbers) = (u32::from_be_bytes(grouping_type), rows.as_ptr().cast(), numbers(rows));
+    let [length] = value(|out| unsafe { writer(kind, run, numbers, quoted as u64, body.as_mut_ptr(), body.len() as u64, out) })?;
     Ok(length as usize)
 }
 
@@ -296,13 +329,13 @@ pub fn write_csgp(grouping_type: [u8; 4], rows: &[SampleToGroupEntry], quoted: u
 }
 
 /// The description index of a sample (both as in the Rust: samples from 0, descriptions from 1); 0 past the last row.
-pub fn group_index_for_sample(rows: &[SampleToGroupEntry], sample: u32) -> Result<u32> {
-    let [index] = value(|out| unsafe { raw::film_group_index_for_sample(rows.as_ptr().cast(), 2 * rows.len(), sample, out) })?;
+pub fn group_index_for_sample(rows: &[SampleToGroupEntry], sample: Sample) -> Result<u32> {
+    let [index] = value(|out| unsafe { raw::film_group_index_for_sample(rows.as_ptr().cast(), numbers(rows), sample, out) })?;
     Ok(index as u32)
 }
 
 pub fn covered_samples(rows: &[SampleToGroupEntry]) -> Result<u64> {
-    let [sum] = value(|out| unsafe { raw::film_covered_samples(rows.as_ptr().cast(), 2 * rows.len(), out) })?;
+    let [sum] = value(|out| unsafe { raw::film_covered_samples(rows.as_ptr().cast(), numbers(rows), out) })?;
     Ok(sum)
 }
 
@@ -317,7 +350,7 @@ pub struct SampleGroupDescription {
 }
 
 pub fn parse_sgpd(payload: &[u8]) -> Result<SampleGroupDescription> {
-    let [version, kind, length, index, count] = value(|out| unsafe { raw::film_parse_sgpd(payload.as_ptr(), payload.len(), out) })?;
+    let [version, kind, length, index, count] = value(|out| unsafe { raw::film_parse_sgpd(payload.as_ptr(), payload.len() as u64, out) })?;
     Ok(SampleGroupDescription {
         version: version as u8,
         grouping_type: fourcc(kind),
@@ -327,10 +360,10 @@ pub fn parse_sgpd(payload: &[u8]) -> Result<SampleGroupDescription> {
     })
 }
 
-type RunFiller = unsafe extern "C" fn(*const u8, usize, *mut u32, usize, *mut [u64; 1]) -> u32;
+type RunFiller = unsafe extern "C" fn(*const u8, u64, *mut u32, u64, *mut [u64; 1]) -> u32;
 
 fn fill(filler: RunFiller, payload: &[u8], records: &mut [[u32; 2]]) -> Result<usize> {
-    let [count] = value(|out| unsafe { filler(payload.as_ptr(), payload.len(), records.as_mut_ptr().cast(), 2 * records.len(), out) })?;
+    let [count] = value(|out| unsafe { filler(payload.as_ptr(), payload.len() as u64, records.as_mut_ptr().cast(), 2 * records.len() as u64, out) })?;
     Ok(count as usize)
 }
 
@@ -341,7 +374,7 @@ pub fn entry_places(payload: &[u8], places: &mut [[u32; 2]]) -> Result<usize> {
 
 /// Entry `index`, counted from 1, of an sgpd payload; None for 0 and past the count.
 pub fn entry(payload: &[u8], index: u32) -> Result<Option<&[u8]>> {
-    let told = call(|out| unsafe { raw::film_entry_place(payload.as_ptr(), payload.len(), index, out) })?;
+    let told = call(|out| unsafe { raw::film_entry_place(payload.as_ptr(), payload.len() as u64, index, out) })?;
     Ok(told.map(|[place, size]| part(payload, place, size)))
 }
 
@@ -351,7 +384,7 @@ pub struct RollRecovery {
 }
 
 pub fn decode_roll(payload: &[u8]) -> Result<RollRecovery> {
-    let [distance] = value(|out| unsafe { raw::film_decode_roll(payload.as_ptr(), payload.len(), out.cast()) })?;
+    let [distance] = value(|out| unsafe { raw::film_decode_roll(payload.as_ptr(), payload.len() as u64, out.cast()) })?;
     Ok(RollRecovery { roll_distance: distance as i16 })
 }
 
@@ -361,7 +394,7 @@ pub struct AudioPreRoll {
 }
 
 pub fn decode_prol(payload: &[u8]) -> Result<AudioPreRoll> {
-    let [distance] = value(|out| unsafe { raw::film_decode_prol(payload.as_ptr(), payload.len(), out.cast()) })?;
+    let [distance] = value(|out| unsafe { raw::film_decode_prol(payload.as_ptr(), payload.len() as u64, out.cast()) })?;
     Ok(AudioPreRoll { roll_distance: distance as i16 })
 }
 
@@ -372,7 +405,7 @@ pub struct VisualRandomAccess {
 }
 
 pub fn decode_rap(payload: &[u8]) -> Result<VisualRandomAccess> {
-    let [known, number] = value(|out| unsafe { raw::film_decode_rap(payload.as_ptr(), payload.len(), out) })?;
+    let [known, number] = value(|out| unsafe { raw::film_decode_rap(payload.as_ptr(), payload.len() as u64, out) })?;
     Ok(VisualRandomAccess { num_leading_samples_known: known == 1, num_leading_samples: number as u8 })
 }
 
@@ -382,7 +415,7 @@ pub struct TemporalLevel {
 }
 
 pub fn decode_tele(payload: &[u8]) -> Result<TemporalLevel> {
-    let [bit] = value(|out| unsafe { raw::film_decode_tele(payload.as_ptr(), payload.len(), out) })?;
+    let [bit] = value(|out| unsafe { raw::film_decode_tele(payload.as_ptr(), payload.len() as u64, out) })?;
     Ok(TemporalLevel { level_independently_decodable: bit == 1 })
 }
 
@@ -393,7 +426,7 @@ pub struct StreamAccessPoint {
 }
 
 pub fn decode_sap(payload: &[u8]) -> Result<StreamAccessPoint> {
-    let [dependent, kind] = value(|out| unsafe { raw::film_decode_sap(payload.as_ptr(), payload.len(), out) })?;
+    let [dependent, kind] = value(|out| unsafe { raw::film_decode_sap(payload.as_ptr(), payload.len() as u64, out) })?;
     Ok(StreamAccessPoint { dependent: dependent == 1, sap_type: kind as u8 })
 }
 
@@ -407,7 +440,7 @@ pub struct RateShare {
 }
 
 pub fn decode_rash(payload: &[u8]) -> Result<RateShare> {
-    let [points, maximum, minimum, priority] = value(|out| unsafe { raw::film_decode_rash(payload.as_ptr(), payload.len(), out) })?;
+    let [points, maximum, minimum, priority] = value(|out| unsafe { raw::film_decode_rash(payload.as_ptr(), payload.len() as u64, out) })?;
     Ok(RateShare {
         operation_point_count: points as u16,
         maximum_bitrate: maximum as u32,
@@ -429,7 +462,7 @@ pub fn rash_operation_points(payload: &[u8], points: &mut [[u32; 2]]) -> Result<
 
 /// Point `k` of a rash, counted from 0; None past the count.
 pub fn rash_operation_point(payload: &[u8], k: u32) -> Result<Option<RateShareOperationPoint>> {
-    let told = call(|out| unsafe { raw::film_rash_operation_point(payload.as_ptr(), payload.len(), k, out) })?;
+    let told = call(|out| unsafe { raw::film_rash_operation_point(payload.as_ptr(), payload.len() as u64, k, out) })?;
     Ok(told.map(|[bitrate, share]| RateShareOperationPoint { available_bitrate: bitrate as u32, target_rate_share: share as u16 }))
 }
 
@@ -442,13 +475,13 @@ pub struct AlternativeStartup {
 }
 
 pub fn decode_alst(payload: &[u8]) -> Result<AlternativeStartup> {
-    let [rolls, first, pieces] = value(|out| unsafe { raw::film_decode_alst(payload.as_ptr(), payload.len(), out) })?;
+    let [rolls, first, pieces] = value(|out| unsafe { raw::film_decode_alst(payload.as_ptr(), payload.len() as u64, out) })?;
     Ok(AlternativeStartup { roll_count: rolls as u16, first_output_sample: first as u16, piece_count: pieces as u32 })
 }
 
 /// Offset `k` of an alst, counted from 0; None past the count.
 pub fn alst_sample_offset(payload: &[u8], k: u32) -> Result<Option<u32>> {
-    let told = call(|out| unsafe { raw::film_alst_sample_offset(payload.as_ptr(), payload.len(), k, out) })?;
+    let told = call(|out| unsafe { raw::film_alst_sample_offset(payload.as_ptr(), payload.len() as u64, k, out) })?;
     Ok(told.map(|[offset]| offset as u32))
 }
 
@@ -460,14 +493,14 @@ pub struct AlternativeStartupPiece {
 
 /// Piece `k` of an alst, counted from 0; None past the count.
 pub fn alst_piece(payload: &[u8], k: u32) -> Result<Option<AlternativeStartupPiece>> {
-    let told = call(|out| unsafe { raw::film_alst_piece(payload.as_ptr(), payload.len(), k, out) })?;
+    let told = call(|out| unsafe { raw::film_alst_piece(payload.as_ptr(), payload.len() as u64, k, out) })?;
     Ok(told.map(|[output, total]| AlternativeStartupPiece { num_output_samples: output as u16, num_total_samples: total as u16 }))
 }
 
 /// Whether two entries of one grouping type decode to the same value.
 pub fn decode_alike(grouping_type: [u8; 4], a: &[u8], b: &[u8]) -> Result<bool> {
     let kind = u32::from_be_bytes(grouping_type);
-    let [same] = value(|out| unsafe { raw::film_decode_alike(kind, a.as_ptr(), a.len(), b.as_ptr(), b.len(), out) })?;
+    let [same] = value(|out| unsafe { raw::film_decode_alike(kind, a.as_ptr(), a.len() as u64, b.as_ptr(), b.len() as u64, out) })?;
     Ok(same == 1)
 }
 
@@ -487,7 +520,7 @@ pub fn split_csgp_index(raw: u32) -> CsgpIndex {
 
 /// The entry that such an index names, a part of the film-wide or of the fragment's sgpd payload; None where that has no such entry.
 pub fn described<'a>(film: &'a [u8], fragment: &'a [u8], raw: u32) -> Result<Option<&'a [u8]>> {
-    let told = call(|out| unsafe { raw::film_described_place(film.as_ptr(), film.len(), fragment.as_ptr(), fragment.len(), raw, out) })?;
+    let told = call(|out| unsafe { raw::film_described_place(film.as_ptr(), film.len() as u64, fragment.as_ptr(), fragment.len() as u64, raw, out) })?;
     Ok(told.map(|[local, place, size]| part(if local == 1 { fragment } else { film }, place, size)))
 }
 
@@ -508,40 +541,40 @@ pub struct CueListing {
 /// The cue listing of one grouping type in the body of an stbl (the form is told in film_index.h). The table's rows are left in `rows`.
 pub fn cue_listing(body: &[u8], grouping_type: [u8; 4], rows: &mut [SampleToGroupEntry], listing: &mut [u8]) -> Result<CueListing> {
     let kind = u32::from_be_bytes(grouping_type);
-    let (run, numbers, output, room) = (rows.as_mut_ptr().cast(), 2 * rows.len(), listing.as_mut_ptr(), listing.len());
-    let [length, count] = value(|out| unsafe { raw::film_cue_listing(body.as_ptr(), body.len(), kind, run, numbers, output, room, out) })?;
+    let (run, numbers, output, room) = (rows.as_mut_ptr().cast(), numbers(rows), listing.as_mut_ptr(), listing.len() as u64);
+    let [length, count] = value(|out| unsafe { raw::film_cue_listing(body.as_ptr(), body.len() as u64, kind, run, numbers, output, room, out) })?;
     Ok(CueListing { length: length as usize, entry_count: count as usize })
 }
 
 /// The same for a track, counted from 0, of the front of a film.
 pub fn file_cue_listing(s: &[u8], track: u32, grouping_type: [u8; 4], rows: &mut [SampleToGroupEntry], listing: &mut [u8]) -> Result<CueListing> {
     let kind = u32::from_be_bytes(grouping_type);
-    let (run, numbers, output, room) = (rows.as_mut_ptr().cast(), 2 * rows.len(), listing.as_mut_ptr(), listing.len());
-    let [length, count] = value(|out| unsafe { raw::film_file_cue_listing(s.as_ptr(), s.len(), track, kind, run, numbers, output, room, out) })?;
+    let (run, numbers, output, room) = (rows.as_mut_ptr().cast(), numbers(rows), listing.as_mut_ptr(), listing.len() as u64);
+    let [length, count] = value(|out| unsafe { raw::film_file_cue_listing(s.as_ptr(), s.len() as u64, track, kind, run, numbers, output, room, out) })?;
     Ok(CueListing { length: length as usize, entry_count: count as usize })
 }
 
 /// The sample where decoding begins so that a frame of an stbl's body is clean, by the group "roll" (film_index.h tells how); none where there is no such sample.
-pub fn roll_start(body: &[u8], frame: u32) -> Result<Option<u32>> {
-    let told = call(|out| unsafe { raw::film_roll_start(body.as_ptr(), body.len(), frame, out) })?;
-    Ok(told.map(|[sample]| sample as u32))
+pub fn roll_start(body: &[u8], frame: Sample) -> Result<Option<Sample>> {
+    let told = call(|out| unsafe { raw::film_roll_start(body.as_ptr(), body.len() as u64, frame, out) })?;
+    Ok(told.map(|[sample]| sample as Sample))
 }
 
 /// The same by the group "rap ".
-pub fn rap_start(body: &[u8], frame: u32) -> Result<Option<u32>> {
-    let told = call(|out| unsafe { raw::film_rap_start(body.as_ptr(), body.len(), frame, out) })?;
-    Ok(told.map(|[sample]| sample as u32))
+pub fn rap_start(body: &[u8], frame: Sample) -> Result<Option<Sample>> {
+    let told = call(|out| unsafe { raw::film_rap_start(body.as_ptr(), body.len() as u64, frame, out) })?;
+    Ok(told.map(|[sample]| sample as Sample))
 }
 
 /// Whether a sample, counted from 0, is a sync sample of the body of an stss.
-pub fn is_sync_sample(s: &[u8], sample: u32) -> Result<bool> {
-    let [told] = value(|out| unsafe { raw::film_is_sync_sample(s.as_ptr(), s.len(), sample, out) })?;
+pub fn is_sync_sample(s: &[u8], sample: Sample) -> Result<bool> {
+    let [told] = value(|out| unsafe { raw::film_is_sync_sample(s.as_ptr(), s.len() as u64, sample, out) })?;
     Ok(told == 1)
 }
 
 /// The last sync sample, counted from 0, at or before a frame.
-pub fn last_sync_sample(s: &[u8], frame: u32) -> Result<Option<u32>> {
-    Ok(call(|out| unsafe { raw::film_last_sync_sample(s.as_ptr(), s.len(), frame, out) })?.map(|[sample]| sample as u32))
+pub fn last_sync_sample(s: &[u8], frame: Sample) -> Result<Option<Sample>> {
+    Ok(call(|out| unsafe { raw::film_last_sync_sample(s.as_ptr(), s.len() as u64, frame, out) })?.map(|[sample]| sample as Sample))
 }
 
 /// The fields of a sample in an sdtp, two bits each.
@@ -554,8 +587,8 @@ pub struct SampleDependency {
 }
 
 /// What the body of an sdtp says of a sample, counted from 0; None past its last byte.
-pub fn sample_dependency(s: &[u8], sample: u32) -> Result<Option<SampleDependency>> {
-    let told = call(|out| unsafe { raw::film_sample_dependency(s.as_ptr(), s.len(), sample, out) })?;
+pub fn sample_dependency(s: &[u8], sample: Sample) -> Result<Option<SampleDependency>> {
+    let told = call(|out| unsafe { raw::film_sample_dependency(s.as_ptr(), s.len() as u64, sample, out) })?;
     Ok(told.map(|[a, b, c, d]| SampleDependency {
         is_leading: a as u8,
         sample_depends_on: b as u8,

@@ -4,6 +4,7 @@
 use crate::bench::calls::*;
 use crate::bench::inputs::*;
 use crate::bench::{Bench, listing};
+use crate::film_index::{ROW_NUMBERS, RowNumber};
 use crate::sample_groups::*;
 use crate::{atom, standalone};
 use std::hint::black_box;
@@ -22,7 +23,7 @@ impl Bench {
     }
 
     /// A reader of whole inputs beside a function of the Rust.
-    fn beside<T>(&mut self, name: &str, s: Vec<u8>, ours: Reader, rust: fn(&[u8]) -> standalone::Result<T>) {
+    fn beside<T, Out>(&mut self, name: &str, s: Vec<u8>, ours: Reader<Out>, rust: fn(&[u8]) -> standalone::Result<T>) {
         let (s, rust) = (black_box(s), black_box(rust));
         let mut out = [0; 5];
         assert_eq!(read_into(ours, &s, &mut out), 0);
@@ -31,7 +32,7 @@ impl Bench {
     }
 
     /// A part of an entry by its number, where the Rust decodes the entry and takes the part.
-    fn by_number<T, P>(&mut self, name: &str, s: Vec<u8>, ours: Numbered, rust: fn(&[u8]) -> standalone::Result<T>, parts: fn(&T) -> &[P]) {
+    fn by_number<T, P, Out>(&mut self, name: &str, s: Vec<u8>, ours: Numbered<Out>, rust: fn(&[u8]) -> standalone::Result<T>, parts: fn(&T) -> &[P]) {
         let (s, rust, parts) = (black_box(s), black_box(rust), black_box(parts));
         let count = parts(&rust(&s).unwrap()).len();
         let one = format!("{name}, one of {count}");
@@ -41,7 +42,7 @@ impl Bench {
     }
 
     /// All parts of an entry, one after the other, where the Rust keeps what it decoded.
-    fn each<T, P>(&mut self, name: &str, s: Vec<u8>, ours: Numbered, rust: fn(&[u8]) -> standalone::Result<T>, parts: fn(&T) -> &[P]) {
+    fn each<T, P, Out>(&mut self, name: &str, s: Vec<u8>, ours: Numbered<Out>, rust: fn(&[u8]) -> standalone::Result<T>, parts: fn(&T) -> &[P]) {
         let (s, rust, parts) = (black_box(s), black_box(rust), black_box(parts));
         let count = parts(&rust(&s).unwrap()).len();
         let mut out = [0; 2];
@@ -51,14 +52,14 @@ impl Bench {
     }
 
     /// All parts of a payload in one call, then one after the other out of the lent run; the Rust decodes, and keeps what it decoded.
-    fn filled<T, P>(&mut self, name: &str, s: Vec<u8>, ours: Parser, rust: fn(&[u8]) -> standalone::Result<T>, parts: fn(&T) -> &[P]) {
+    fn filled<T, P>(&mut self, name: &str, s: Vec<u8>, ours: Filler<[u64; 1]>, rust: fn(&[u8]) -> standalone::Result<T>, parts: fn(&T) -> &[P]) {
         let (s, rust, parts) = (black_box(s), black_box(rust), black_box(parts));
         let count = parts(&rust(&s).unwrap()).len();
         let mut run = vec![0; 2 * count];
-        let mut out = [0; 3];
+        let mut out = [0; 1];
         let name = format!("{name}, all {count}");
         self.ours(&name, || {
-            assert_eq!(black_box(unsafe { ours(s.as_ptr(), s.len(), run.as_mut_ptr(), run.len(), out.as_mut_ptr()) }), 0);
+            assert_eq!(black_box(unsafe { ours(s.as_ptr(), s.len() as u64, run.as_mut_ptr(), run.len() as u64, &mut out) }), 0);
             run.chunks_exact(2).for_each(|p| drop(black_box(p)));
         });
         assert_eq!(out[0], count as u64);
@@ -72,7 +73,7 @@ impl Bench {
             let s: &[u8] = black_box(s).leak();
             let name = format!("read_atom_header, {kind}");
             let mut out = [0; 5];
-            self.ours(&name, || drop(black_box(unsafe { film_read_atom_header(s.as_ptr(), s.len(), 0, out.as_mut_ptr()) })));
+            self.ours(&name, || drop(black_box(unsafe { film_read_atom_header(s.as_ptr(), s.len() as u64, 0, &mut out) })));
             self.rust(&name, || drop(black_box(header(&mut Cursor::new(s)).unwrap())));
         }
         // a source of its own type, so that the walk's header reader has one caller, as in a program that only walks
@@ -93,14 +94,14 @@ impl Bench {
                 h
             };
             let name = format!("read_payload, {size} bytes");
-            self.ours(&name, || drop(black_box(unsafe { film_read_payload(s.as_ptr(), s.len(), 0, out.as_mut_ptr()) })));
+            self.ours(&name, || drop(black_box(unsafe { film_read_payload(s.as_ptr(), s.len() as u64, 0, &mut out) })));
             self.rust(&name, || {
                 let mut r = Cursor::new(s);
                 let h = body(&mut r);
                 drop(black_box(payload(&mut r, &h).unwrap()));
             });
             let name = format!("read_payload_bounded, {size} bytes");
-            self.ours(&name, || drop(black_box(unsafe { film_read_payload_bounded(s.as_ptr(), s.len(), 0, 5000, out.as_mut_ptr()) })));
+            self.ours(&name, || drop(black_box(unsafe { film_read_payload_bounded(s.as_ptr(), s.len() as u64, 0, 5000, &mut out) })));
             self.rust(&name, || {
                 let mut r = Cursor::new(s);
                 let h = body(&mut r);
@@ -109,10 +110,10 @@ impl Bench {
         }
     }
 
-    fn table(&mut self, name: &str, s: Vec<u8>, ours: Parser, needed: Reader, rust: fn(&[u8]) -> standalone::Result<SampleToGroup>) {
+    fn table(&mut self, name: &str, s: Vec<u8>, ours: Filler<[u64; 3]>, needed: Reader<[u64; 1]>, rust: fn(&[u8]) -> standalone::Result<SampleToGroup>) {
         let (s, rust) = (black_box(s), black_box(rust));
         let count = rust(&s).unwrap().entries.len();
-        let mut run = vec![0; 2 * count];
+        let mut run = vec![0; ROW_NUMBERS * count];
         assert_eq!(parse(ours, &s, &mut run), (0, count as u64));
         let parsed = format!("parse_{name}, {count} rows");
         self.ours(&parsed, || drop(parse(ours, &s, &mut run)));
@@ -135,7 +136,7 @@ impl Bench {
             }
         }
         let table = black_box(parse_sbgp(&sbgp(1000)).unwrap());
-        let rows: Vec<u32> = black_box(table.entries.iter().flat_map(|e| [e.sample_count, e.group_description_index]).collect());
+        let rows: Vec<RowNumber> = black_box(table.entries.iter().flat_map(|e| [e.sample_count, e.group_description_index]).collect());
         let last = covered(&rows) as u32 - 1;
         let index = black_box(SampleToGroup::group_index_for_sample as fn(&SampleToGroup, u32) -> u32);
         let mut out = [0];
@@ -175,7 +176,7 @@ impl Bench {
         }
         let split = black_box(split_csgp_index as fn(u32) -> CsgpIndex);
         let mut out = [0; 2];
-        self.ours("split_csgp_index", || unsafe { film_split_csgp_index(black_box(0x8000_0007), out.as_mut_ptr()) });
+        self.ours("split_csgp_index", || unsafe { film_split_csgp_index(black_box(0x8000_0007), &mut out) });
         self.rust("split_csgp_index", || drop(black_box(split(black_box(0x8000_0007)))));
         self.ours("rate_of_point", || drop(black_box(unsafe { film_rate_of_point(black_box(4_000_000_000), black_box(75)) })));
     }

@@ -3,6 +3,7 @@
 use crate::bench::Bench;
 use crate::bench::calls::*;
 use crate::bench::inputs::*;
+use crate::film_index::{ROW_NUMBERS, RowNumber};
 use std::hint::black_box;
 
 const SIZES: [u32; 11] = [1, 2, 4, 8, 16, 32, 64, 128, 256, 512, 1024];
@@ -17,21 +18,26 @@ impl Bench {
     }
 }
 
-/// A csgp and room for its rows.
-fn with_rows(s: Vec<u8>, rows: u32) -> (Vec<u8>, Vec<u32>) {
-    (s, vec![0; 2 * rows as usize])
+/// A table and room for its rows.
+fn with_rows(s: Vec<u8>, rows: u32) -> (Vec<u8>, Vec<RowNumber>) {
+    (s, vec![0; ROW_NUMBERS * rows as usize])
 }
 
-fn written(lent: &mut (Vec<u8>, Vec<u32>)) {
+/// A payload and room for as many pairs.
+fn with_pairs(s: Vec<u8>, pairs: u32) -> (Vec<u8>, Vec<u32>) {
+    (s, vec![0; 2 * pairs as usize])
+}
+
+fn written(lent: &mut (Vec<u8>, Vec<RowNumber>)) {
     let (s, rows) = lent;
-    assert_eq!(parse(film_parse_csgp, s, rows), (0, rows.len() as u64 / 2));
+    assert_eq!(parse(film_parse_csgp, s, rows), (0, (rows.len() / ROW_NUMBERS) as u64));
 }
 
 fn needed(s: &mut Vec<u8>) {
     assert_eq!(read(film_csgp_rows_needed, s).0, 0);
 }
 
-fn rows(n: u32) -> Vec<u32> {
+fn rows(n: u32) -> Vec<RowNumber> {
     (0..n).flat_map(|k| [k % 7 + 1, k % 3]).collect()
 }
 
@@ -44,22 +50,22 @@ fn patterns(n: u32) -> Vec<u8> {
     csgp(b"rap ", 1, &(0..n).map(|k| (3, vec![1 + k % 15])).collect::<Vec<_>>())
 }
 
-fn listed(lent: &mut (Vec<u8>, Vec<u32>, Vec<u8>)) {
+fn listed(lent: &mut (Vec<u8>, Vec<RowNumber>, Vec<u8>)) {
     let (s, rows, listing) = lent;
     list(s, b"roll", rows, listing).unwrap();
 }
 
 /// A table of n rows that are n stretches, with room for rows and listing.
-fn stretches(n: u32) -> (Vec<u8>, Vec<u32>, Vec<u8>) {
+fn stretches(n: u32) -> (Vec<u8>, Vec<RowNumber>, Vec<u8>) {
     let entries: Vec<Vec<u8>> = (0..15).map(|k| vec![0, k]).collect();
-    (body(&csgp(b"roll", 1, &[(n, (0..n).map(|k| 1 + k % 15).collect())]), &sgpd_of(b"roll", &entries)), vec![0; 2 * n as usize], vec![0; 8 * n as usize + 64])
+    (body(&csgp(b"roll", 1, &[(n, (0..n).map(|k| 1 + k % 15).collect())]), &sgpd_of(b"roll", &entries)), vec![0; ROW_NUMBERS * n as usize], vec![0; 8 * n as usize + 64])
 }
 
 pub fn run(bench: &mut Bench) {
     bench.grow("next_child, a walk", "atoms", atoms, |s| drop(black_box(walk(s))));
     bench.grow("read_payload", "bytes of the body", |n| atom_of(b"sbgp", &vec![0; n as usize]), |s| {
         let mut out = [0; 2];
-        assert_eq!(unsafe { film_read_payload(s.as_ptr(), s.len(), 0, out.as_mut_ptr()) }, 0);
+        assert_eq!(unsafe { film_read_payload(s.as_ptr(), s.len() as u64, 0, &mut out) }, 0);
     });
     bench.grow("parse_sbgp", "rows", |n| with_rows(sbgp(n), n), |(s, rows)| drop(parse(film_parse_sbgp, s, rows)));
     bench.grow("sbgp_rows_needed", "rows", sbgp, |s| drop(read(film_sbgp_rows_needed, s)));
@@ -74,14 +80,14 @@ pub fn run(bench: &mut Bench) {
     bench.grow("covered_samples", "rows", rows, |r| drop(covered(r)));
     for (kind, prefixed) in [("one length", false), ("lengths", true)] {
         bench.grow(&format!("parse_sgpd, {kind}"), "entries", |n| sgpd(n, prefixed), |s| assert_eq!(read(film_parse_sgpd, s).0, 0));
-        bench.grow(&format!("entry_places, {kind}"), "entries", |n| with_rows(sgpd(n, prefixed), n), |(s, places)| assert_eq!(fill(film_entry_places, s, places).0, 0));
+        bench.grow(&format!("entry_places, {kind}"), "entries", |n| with_pairs(sgpd(n, prefixed), n), |(s, places)| assert_eq!(fill(film_entry_places, s, places).0, 0));
         bench.grow(&format!("entry_place, {kind}, the last"), "entries", |n| (n, sgpd(n, prefixed)), |(n, s)| assert_eq!(numbered(film_entry_place, s, *n).0, 0));
         bench.grow(&format!("described_place, {kind}, the last of the fragment's"), "entries of each", |n| (n, sgpd(n, prefixed)), |(n, s)| {
             assert_eq!(described(s, s, 0x8000_0000 | *n).0, 0)
         });
     }
     bench.grow("decode_rash", "points", |n| rash(n as u16 + 1), |s| assert_eq!(read(film_decode_rash, s).0, 0));
-    bench.grow("rash_operation_points", "points", |n| with_rows(rash(n as u16 + 1), n + 1), |(s, points)| assert_eq!(fill(film_rash_operation_points, s, points).0, 0));
+    bench.grow("rash_operation_points", "points", |n| with_pairs(rash(n as u16 + 1), n + 1), |(s, points)| assert_eq!(fill(film_rash_operation_points, s, points).0, 0));
     bench.grow("rash_operation_point, the last", "points", |n| (n, rash(n as u16 + 1)), |(n, s)| assert_eq!(numbered(film_rash_operation_point, s, *n).0, 0));
     bench.grow("decode_alst", "offsets and as many pieces", |n| alst(n as u16, n as usize), |s| assert_eq!(read(film_decode_alst, s).0, 0));
     bench.grow("alst_sample_offset, the last", "offsets", |n| (n, alst(n as u16, 1)), |(n, s)| assert_eq!(numbered(film_alst_sample_offset, s, *n - 1).0, 0));
@@ -116,7 +122,7 @@ pub fn periods(bench: &mut Bench) {
         for count in [10, 100, 1000] {
             let indices = (0..length).map(|k| 1 + 2 * k / length).collect();
             let s = black_box(csgp(b"rap ", 3, &[(length * count, indices)]));
-            let mut run = vec![0u32; 4 * count as usize];
+            let mut run = vec![0; ROW_NUMBERS * 2 * count as usize];
             bench.measure(format!("periods\t{length}\t{count}\t{}", 2 * count), || {
                 assert_eq!(parse(film_parse_csgp, &s, &mut run), (0, 2 * count as u64))
             });

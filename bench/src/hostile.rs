@@ -3,7 +3,10 @@
 use crate::bench::Bench;
 use crate::bench::calls::*;
 use crate::bench::inputs::*;
+use crate::film_index::{ROW_NUMBERS, SampleToGroupEntry};
 use std::hint::black_box;
+
+const ROW_BYTES: u64 = size_of::<SampleToGroupEntry>() as u64;
 
 impl Bench {
     /// One call; `told` gives its answer in words, and the number of bytes that it wrote.
@@ -12,15 +15,15 @@ impl Bench {
         self.once(format!("hostile\t{name}\t{answer}\t{bytes}\t{records}\t{written}"), || drop(black_box(work())));
     }
 
-    fn parsed(&mut self, name: &str, call: Parser, s: &[u8], records: usize) {
-        let mut run = vec![0u32; 2 * records];
+    fn parsed(&mut self, name: &str, call: Filler<[u64; 3]>, s: &[u8], records: usize) {
+        let mut run = vec![0; ROW_NUMBERS * records];
         self.suffer(name, s.len(), records, || parse(call, s, &mut run), |told| match told {
-            (0, count) => (format!("{count} rows"), 8 * count + 24),
+            (0, count) => (format!("{count} rows"), ROW_BYTES * count + 24),
             (n, _) => (format!("refused {n}"), 0),
         });
     }
 
-    fn counted(&mut self, name: &str, call: Reader, s: &[u8]) {
+    fn counted(&mut self, name: &str, call: Reader<[u64; 1]>, s: &[u8]) {
         self.suffer(name, s.len(), 0, || read(call, s), |told| match told {
             (0, out) => (format!("{} rows", out[0]), 8),
             (n, _) => (format!("refused {n}"), 0),
@@ -30,7 +33,7 @@ impl Bench {
 
 fn listed(told: Result<[u64; 2], u32>) -> (String, u64) {
     let [length, count] = told.unwrap();
-    (format!("{count} rows, {length} bytes"), 8 * count + length)
+    (format!("{count} rows, {length} bytes"), ROW_BYTES * count + length)
 }
 
 pub fn run(bench: &mut Bench) {
@@ -86,7 +89,7 @@ pub fn run(bench: &mut Bench) {
 
     // every row is a stretch: values that differ, in turn
     let apart = black_box(body(&csgp(b"roll", 0, &[(1_000_000, vec![1, 2])]), &sgpd_of(b"roll", &[vec![0, 1], vec![0, 2]])));
-    let (mut run, mut listing) = (vec![0u32; 2_000_000], vec![0u8; 8_000_000]);
+    let (mut run, mut listing) = (vec![0; ROW_NUMBERS * 1_000_000], vec![0u8; 8_000_000]);
     bench.suffer("cue_listing: a million rows, no two of them joined", apart.len(), 1_000_000, || list(&apart, b"roll", &mut run, &mut listing), listed);
     let written_out = black_box(body(
         &csgp(b"roll", 0, &[(1_000_000, (0..1_000_000).map(|k| 1 + k % 15).collect())]),

@@ -4,6 +4,7 @@
 use crate::bench::Bench;
 use crate::bench::calls::list;
 use crate::bench::inputs::*;
+use crate::film_index::ROW_NUMBERS;
 use crate::{atom, sample_groups};
 use std::hint::black_box;
 use std::io::Cursor;
@@ -66,7 +67,7 @@ fn by_rust(s: &[u8]) -> Vec<u8> {
 
 pub fn million(bench: &mut Bench) {
     let s = black_box(million_samples());
-    let mut rows = vec![0u32; 8192];
+    let mut rows = vec![0; ROW_NUMBERS * 4096];
     let mut listing = vec![0u8; 1 << 15];
     let [length, _] = list(&s, b"roll", &mut rows, &mut listing).unwrap();
     assert_eq!(listing[..length as usize], by_rust(&s));
@@ -237,7 +238,7 @@ pub fn run(bench: &mut Bench) {
         let (kind, s) = black_box(hostile_body(name));
         let cue = !name.starts_with("odd");
         assert!(!cue || s.len() <= BODY, "{} bytes", s.len());
-        let mut rows = vec![0u32; if cue { 2 * ROWS as usize } else { 40_000 }];
+        let mut rows = vec![0; ROW_NUMBERS * if cue { ROWS as usize } else { 20_000 }];
         let mut listing = vec![0u8; if cue { BODY } else { 1 << 20 }];
         let answer = match list(&s, &kind, &mut rows, &mut listing) {
             Ok([length, count]) => format!("{count} rows, {length} bytes"),

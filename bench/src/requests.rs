@@ -3,20 +3,12 @@
 use crate::bench::Bench;
 use crate::bench::calls::*;
 use crate::bench::inputs::*;
+use crate::film_index::RowNumber;
 use crate::sample_groups;
 use std::hint::black_box;
 
-unsafe extern "C" {
-    fn film_find_stbl(s: *const u8, len: usize, track: u32, out: *mut u64) -> u32;
-    fn film_quote_sbgp(rows: *const u32, len: usize, out: *mut u64) -> u32;
-    fn film_quote_csgp(rows: *const u32, len: usize, out: *mut u64) -> u32;
-    fn film_write_sbgp(kind: u32, rows: *const u32, len: usize, quoted: usize, body: *mut u8, body_len: usize, out: *mut u64) -> u32;
-    fn film_write_csgp(kind: u32, rows: *const u32, len: usize, quoted: usize, body: *mut u8, body_len: usize, out: *mut u64) -> u32;
-    fn film_last_sync_sample(s: *const u8, len: usize, frame: u32, out: *mut u64) -> u32;
-}
-
-type Quote = unsafe extern "C" fn(*const u32, usize, *mut u64) -> u32;
-type Write = unsafe extern "C" fn(u32, *const u32, usize, usize, *mut u8, usize, *mut u64) -> u32;
+type Quote = unsafe extern "C" fn(*const RowNumber, u64, *mut [u64; 1]) -> u32;
+type Write = unsafe extern "C" fn(u32, *const RowNumber, u64, u64, *mut u8, u64, *mut [u64; 1]) -> u32;
 
 /// A film of one track among `tiny` empty atoms.
 fn film(tiny: u32, stbl: &[u8]) -> Vec<u8> {
@@ -31,15 +23,15 @@ fn film(tiny: u32, stbl: &[u8]) -> Vec<u8> {
 
 /// A written table, its quote, and the Rust's reading of it.
 fn written(bench: &mut Bench, name: &str, quote: Quote, write: Write, rust: fn(&[u8]) -> crate::standalone::Result<sample_groups::SampleToGroup>) {
-    let rows: Vec<u32> = black_box((0..1000u32).flat_map(|k| [k % 7 + 1, k % 3]).collect());
+    let rows: Vec<RowNumber> = black_box((0..1000u32).flat_map(|k| [k % 7 + 1, k % 3]).collect());
     let (mut out, rust) = ([0u64; 1], black_box(rust));
-    assert_eq!(unsafe { quote(rows.as_ptr(), rows.len(), out.as_mut_ptr()) }, 0);
-    let length = out[0] as usize;
-    let mut body = vec![0u8; length];
-    bench.measure(format!("entry\tquote_{name}, 1,000 rows\tours"), || drop(black_box(unsafe { quote(rows.as_ptr(), rows.len(), out.as_mut_ptr()) })));
+    assert_eq!(unsafe { quote(rows.as_ptr(), rows.len() as u64, &mut out) }, 0);
+    let length = out[0];
+    let mut body = vec![0u8; length as usize];
+    bench.measure(format!("entry\tquote_{name}, 1,000 rows\tours"), || drop(black_box(unsafe { quote(rows.as_ptr(), rows.len() as u64, &mut out) })));
     let line = format!("write_{name}, 1,000 rows; the Rust reads the body");
     bench.measure(format!("entry\t{line}\tours"), || {
-        let told = unsafe { write(0x726f_6c6c, rows.as_ptr(), rows.len(), length, body.as_mut_ptr(), length, out.as_mut_ptr()) };
+        let told = unsafe { write(0x726f_6c6c, rows.as_ptr(), rows.len() as u64, length, body.as_mut_ptr(), length, &mut out) };
         assert_eq!(told, 0);
     });
     bench.measure(format!("entry\t{line}\trust"), || drop(black_box(rust(&body).unwrap())));
@@ -49,7 +41,7 @@ pub fn run(bench: &mut Bench) {
     let s = black_box(film(1000, &[0; 64]));
     let mut out = [0u64; 2];
     bench.measure("entry\tfind_stbl, behind 1,000 atoms\tours".into(), || {
-        assert_eq!(unsafe { film_find_stbl(s.as_ptr(), s.len(), 0, out.as_mut_ptr()) }, 0)
+        assert_eq!(unsafe { film_find_stbl(s.as_ptr(), s.len() as u64, 0, &mut out) }, 0)
     });
     written(bench, "sbgp", film_quote_sbgp, film_write_sbgp, sample_groups::parse_sbgp);
     written(bench, "csgp", film_quote_csgp, film_write_csgp, sample_groups::parse_csgp);
@@ -57,7 +49,7 @@ pub fn run(bench: &mut Bench) {
     stss.extend((1..=1000u32).flat_map(|k| (10 * k).to_be_bytes()));
     let stss = black_box(stss);
     bench.measure("entry\tlast_sync_sample, 1,000 numbers\tours".into(), || {
-        assert_eq!(unsafe { film_last_sync_sample(stss.as_ptr(), stss.len(), 5000, out.as_mut_ptr()) }, 0)
+        assert_eq!(unsafe { film_last_sync_sample(stss.as_ptr(), stss.len() as u64, 5000, front(&mut out)) }, 0)
     });
 }
 

@@ -6,6 +6,7 @@ use super::random::Random;
 use super::tables::{self, Readers};
 use super::tally::Tally;
 use super::vectors::Vectors;
+use crate::film_index::ROW_NUMBERS;
 use crate::sample_groups;
 
 pub const WIDTHS: [u32; 4] = [4, 8, 16, 32];
@@ -256,7 +257,7 @@ fn periods(tally: &mut Tally, random: &mut Random) {
             for records in 0..=rows {
                 let expected = if records < rows { Answer::Refused(29) } else { tables::theirs(&told) };
                 let shown = || format!("{s:02x?} with {records} records");
-                tally.same("parse_csgp", ffi::parse_csgp(&input, s.len(), 2 * records), expected, &shown);
+                tally.same("parse_csgp", ffi::parse_csgp(&input, s.len(), ROW_NUMBERS * records), expected, &shown);
             }
             input.check();
         }

@@ -4,6 +4,7 @@
 use super::ffi::{self, Answer, Input};
 use super::listing;
 use super::tally::Tally;
+use crate::film_index::ROW_NUMBERS;
 
 const BYTES: usize = 67_108_864;
 const RECORDS: usize = 8_388_608;
@@ -63,9 +64,9 @@ pub fn run(tally: &mut Tally) {
         }
     }
     long.check();
-    let rows = vec![0u32; 2 * RECORDS + 2];
-    for numbers in [2 * RECORDS, 2 * RECORDS + 1, 2 * RECORDS + 2] {
-        let mut check = |entry, refused| tally.same(entry, refused, numbers / 2 > RECORDS, &|| format!("55 for {numbers} numbers"));
+    let rows = vec![0; ROW_NUMBERS * (RECORDS + 1)];
+    for numbers in [ROW_NUMBERS * RECORDS, ROW_NUMBERS * (RECORDS + 1) - 1, ROW_NUMBERS * (RECORDS + 1)] {
+        let mut check = |entry, refused| tally.same(entry, refused, numbers / ROW_NUMBERS > RECORDS, &|| format!("55 for {numbers} numbers"));
         check("group_index_for_sample", too_long(ffi::group_index_for_sample(&rows[..numbers], 0)));
         check("covered_samples", too_long(ffi::covered_samples(&rows[..numbers])));
         check("quote_sbgp", too_long(ffi::quote_sbgp(&rows[..numbers])));
@@ -78,7 +79,7 @@ pub fn run(tally: &mut Tally) {
     assert!(rows.iter().all(|&n| n == 0), "rows were written");
     // A run or an output that is lent to be filled has no limit of its own.
     let film = Input::new(&listing::starred());
-    for (numbers, room) in [(2 * RECORDS + 2, 12), (4, BYTES + 1)] {
+    for (numbers, room) in [(ROW_NUMBERS * (RECORDS + 1), 12), (2 * ROW_NUMBERS, BYTES + 1)] {
         let told = ffi::cue_listing(&film, 62, *b"roll", numbers, room).map(|(bytes, rows)| (bytes.len(), rows.len()));
         tally.same("cue_listing", told, Answer::Given((12, 2)), &|| format!("{numbers} numbers and {room} bytes are lent"));
     }

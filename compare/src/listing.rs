@@ -8,6 +8,7 @@ use super::stbl::{self, Cue, Film, Parts};
 use super::tally::Tally;
 use super::vectors::{Vectors, eights};
 use super::{atoms, csgp, entries, tables};
+use crate::film_index::ROW_NUMBERS;
 use crate::atom;
 use crate::sample_groups::{self as rust, SampleGroupDescription, SampleToGroup, SampleToGroupEntry};
 use crate::standalone::Error;
@@ -307,7 +308,7 @@ fn compare(tally: &mut Tally, random: &mut Random, seen: &mut Seen, kind: &[u8; 
     tally.input("bodies of stbl");
     let told = told(s, kind);
     let endless = matches!(&told, Told::Read(rows, _) if rows.endless);
-    let numbers = 2 * told.rows();
+    let numbers = ROW_NUMBERS * told.rows();
     let mut lent = Vec::new();
     if !endless {
         let length = if let Told::Read(_, Ok(listing)) = &told { listing.len() } else { random.pick(&[0, 9, 80]) };
@@ -324,7 +325,7 @@ fn compare(tally: &mut Tally, random: &mut Random, seen: &mut Seen, kind: &[u8; 
     }
     let mut listing = None;
     for (numbers, room) in lent {
-        let expected = told.answer(numbers / 2, room);
+        let expected = told.answer(numbers / ROW_NUMBERS, room);
         let ours = ffi::cue_listing(&input, s.len(), *kind, numbers, room);
         match &ours {
             Answer::Given((bytes, _)) => listing = Some(bytes.clone()),
@@ -590,14 +591,14 @@ pub fn answers(random: &mut Random, kind: &[u8; 4], s: &[u8]) -> Vec<([u64; 3], 
         Told::Read(_, Ok(listing)) => listing.len(),
         _ => 0,
     };
-    let numbers = 2 * told.rows();
+    let numbers = ROW_NUMBERS * told.rows();
     if s.len() > 110 || numbers > 20 || length > 60 {
         return vec![];
     }
     let spare = (numbers + random.below(4) as usize, length + random.below(9) as usize);
     let lent = [(numbers, length), spare, (numbers.saturating_sub(1), length), (numbers, length.saturating_sub(1))];
     let answer = |(numbers, room)| {
-        let answer = told.answer(numbers / 2, room).map(|(listing, rows)| {
+        let answer = told.answer(numbers / ROW_NUMBERS, room).map(|(listing, rows)| {
             let mut told = vec![listing.len() as u64, rows.len() as u64];
             told.extend(rows.iter().flat_map(|&(n, i)| [n as u64, i as u64]));
             told.extend(eights(&listing));

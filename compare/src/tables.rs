@@ -5,6 +5,7 @@ use super::messages;
 use super::random::Random;
 use super::tally::Tally;
 use super::vectors::Vectors;
+use crate::film_index::{ROW_NUMBERS, RowNumber};
 use crate::sample_groups::SampleToGroup;
 use crate::standalone::{Error, Result};
 
@@ -57,7 +58,7 @@ pub fn compare(tally: &mut Tally, random: &mut Random, readers: &Readers, s: &[u
     let expected = theirs(&told);
     let rows = told.as_ref().map_or(3, |t| t.entries.len());
     let shown = |room: usize| move || format!("{:02x?} with {room} numbers", &s[..s.len().min(80)]);
-    for numbers in [2 * rows, 2 * rows + 1 + random.below(5) as usize] {
+    for numbers in [ROW_NUMBERS * rows, ROW_NUMBERS * rows + 1 + random.below(5) as usize] {
         tally.same(entry, ours(&input, s.len(), numbers), expected.clone(), &shown(numbers));
     }
     let count = expected.map(|(_, _, rows)| rows.len() as u64);
@@ -65,8 +66,8 @@ pub fn compare(tally: &mut Tally, random: &mut Random, readers: &Readers, s: &[u
     if let Ok(table) = &told {
         if rows > 0 {
             // 29 has no counterpart in the Rust: its rows say that one record is missing.
-            let fewer = random.below(2 * rows as u64) as usize;
-            for numbers in [2 * rows - 1, fewer] {
+            let fewer = random.below((ROW_NUMBERS * rows) as u64) as usize;
+            for numbers in [ROW_NUMBERS * rows - 1, fewer] {
                 tally.same(entry, ours(&input, s.len(), numbers), Answer::Refused(29), &shown(numbers));
             }
         }
@@ -77,7 +78,7 @@ pub fn compare(tally: &mut Tally, random: &mut Random, readers: &Readers, s: &[u
 
 /// Every sample of a short table and some of a long one, around the total too.
 fn lookups(tally: &mut Tally, random: &mut Random, table: &SampleToGroup) {
-    let mut rows: Vec<u32> = table.entries.iter().flat_map(|e| [e.sample_count, e.group_description_index]).collect();
+    let mut rows: Vec<RowNumber> = table.entries.iter().flat_map(|e| [e.sample_count, e.group_description_index]).collect();
     if random.one_in(4) {
         rows.push(random.next() as u32);
     }
@@ -112,7 +113,7 @@ pub fn sample(out: &mut Vectors, entry: u8, s: &[u8], spare: usize, told: Result
         numbers
     });
     out.add(counting(entry), &[], s, theirs(&told).map(|(_, _, rows)| vec![rows.len() as u64]));
-    out.add(entry, &[(2 * rows + spare) as u64], s, answer);
+    out.add(entry, &[(ROW_NUMBERS * rows + spare) as u64], s, answer);
     let Ok(table) = told else { return };
     let run: Vec<u8> = table.entries.iter().flat_map(|e| [e.sample_count, e.group_description_index]).flat_map(u32::to_be_bytes).collect();
     let covered = table.covered_samples();

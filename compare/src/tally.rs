@@ -52,6 +52,7 @@ pub fn report(tallies: &[Tally]) -> ! {
         println!("compare: {n} {kind}");
     }
     println!("compare: {} answers of the module for Rust", ffi::asked());
+    println!("compare: {} pointers lent as null", ffi::nulls());
     let calls = sums(tallies.iter().map(|tally| &tally.calls));
     for (entry, n) in &calls {
         println!("compare: {entry}: {n} calls");
