@@ -7,7 +7,7 @@ It knows films as ffmpeg makes them: whole atoms, sbgp and sgpd, and the refusal
 import struct
 import sys
 
-HELD = 262144
+HELD = 4194304
 
 
 def atoms(data, at, end):
@@ -66,9 +66,10 @@ def meaning(entry, kind):
 
 
 def listing(data, track, kind):
-    if HELD < len(data):
-        return None, "too long"
     span = inside(data, (0, len(data)), b"moov")
+    # of a longer film the moov alone is held, with its header of 8 bytes
+    if span and HELD < len(data) and HELD < span[1] - span[0] + 8:
+        return None, "too long"
     span = span and inside(data, span, b"trak", track)
     if span is None:
         return None, "refused 60"

@@ -1,17 +1,21 @@
 // Prints the cue listing of a track of a film (document 02, A1): the film's file name, the track from 0 and four type bytes as arguments, one line of
 // lower-case hexadecimal on standard output, or why there is none. With the further argument `words` the listing is told in words, a stretch a line.
 mod arguments;
-mod numbers;
-mod words;
+mod top;
 
+ghost use mathlib.Core.Path.{_≡_};
+ghost use lib.ListN.{length};
 use arguments::ReadTrack;
 use arguments::is_words;
 use arguments::read_track;
 use cue_print::print_listing;
 use cue_print::print_refused;
+use cue_words::words::print_words;
+use libc::SEEK_SET;
 use libc::STDOUT_FILENO;
 use listing_cue::CueListing;
-use words::print_words;
+use top::Moov;
+use top::find_moov;
 
 fn print_told(listing: &[u8], in_words: bool) {
     if in_words {
@@ -43,22 +47,16 @@ fn print_no_film() {
     io::write_all(STDOUT_FILENO, b"no film\n");
 }
 
-// The listing of a track of the film in an open file. A film that fills its room is longer than what is held.
-fn print_read(file: i32, film: &mut [u8], track: u32, grouping_type: u32, in_words: bool) {
-    let n = io::read_full(file, film);
-    // A read that failed fails again; at the end of a file it gives 0.
-    let mut behind = [0u8; 1];
-    if libc::read(file, &mut behind) < 0 {
-        return print_no_film();
-    }
-    if film.len() <= n {
-        io::write_all(STDOUT_FILENO, b"too long\n");
-        return;
-    }
+fn print_too_long() {
+    io::write_all(STDOUT_FILENO, b"too long\n");
+}
+
+// The listing of a track of the film in `film`, by what is lent here for its rows and its bytes.
+fn print_track(film: &[u8], track: u32, grouping_type: u32, in_words: bool) {
     let mut rows = [0u32; 4096];
     let mut listing = [0u8; 16384];
     print_cue(
-        &film[..n],
+        film,
         track,
         grouping_type,
         in_words,
@@ -67,14 +65,94 @@ fn print_read(file: i32, film: &mut [u8], track: u32, grouping_type: u32, in_wor
     );
 }
 
+// A read that failed fails again; at the end of a file it gives 0.
+fn read_failed(file: i32) -> bool {
+    let mut behind = [0u8; 1];
+    libc::read(file, &mut behind) < 0
+}
+
+// The listing of a track where the moov begins at a place of the file and has so many bytes, or ends with the film.
+fn print_moov(
+    file: i32,
+    moov: &mut [u8],
+    place: u64,
+    open: bool,
+    track: u32,
+    grouping_type: u32,
+    in_words: bool,
+) {
+    if 9223372036854775807 < place {
+        return print_no_film();
+    }
+    let offset = place as i64;
+    if libc::lseek(file, offset, SEEK_SET) != offset {
+        return print_no_film();
+    }
+    let n = io::read_full(file, moov);
+    if n < moov.len() {
+        if read_failed(file) {
+            return print_no_film();
+        }
+    } else if open {
+        // One byte more than is held tells that there is more.
+        return print_too_long();
+    }
+    print_track(&moov[..n], track, grouping_type, in_words);
+}
+
+// The listing of a track of a film that is longer than its room: the top is read by place, and the moov alone is held.
+fn print_long(file: i32, film: &mut [u8], track: u32, grouping_type: u32, in_words: bool) {
+    let moov = find_moov(file);
+    match moov {
+        Moov::Sized(place, size) => {
+            if film.len() as u64 <= size {
+                return print_too_long();
+            }
+            let end = size as usize;
+            print_moov(
+                file,
+                &mut film[..end],
+                place,
+                false,
+                track,
+                grouping_type,
+                in_words,
+            )
+        }
+        Moov::Open(place) => print_moov(file, film, place, true, track, grouping_type, in_words),
+        Moov::Missing => print_refused(60),
+        Moov::Refused(code) => print_refused(code),
+        Moov::Failed => print_no_film(),
+    }
+}
+
+// The listing of a track of the film in an open file.
+fn print_read(file: i32, film: &mut [u8], track: u32, grouping_type: u32, in_words: bool) {
+    let n = io::read_full(file, film);
+    // A film that fills its room is longer than what is held.
+    if film.len() <= n {
+        return print_long(file, film, track, grouping_type, in_words);
+    }
+    if read_failed(file) {
+        return print_no_film();
+    }
+    print_track(&film[..n], track, grouping_type, in_words);
+}
+
+// What is held of a film, and one byte more, which tells that there is more.
+fn film_room() -> [u8; 4194305]
+    ensures { λ r. ⌜ 4194305 ≡ length r ⌝ }
+{
+    [0; 4194305]
+}
+
 // The listing of a track of the film in a file.
 fn print_file(name: &[u8], track: u32, grouping_type: u32, in_words: bool) {
     let file = os::open_read(name);
     if file < 0 {
         return print_no_film();
     }
-    // One byte more than is held tells that there is more.
-    let mut film = [0u8; 262145];
+    let mut film = film_room();
     print_read(file, &mut film, track, grouping_type, in_words);
     libc::close(file);
 }

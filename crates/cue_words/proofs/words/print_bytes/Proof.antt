@@ -2,8 +2,8 @@
 use Prim.Native.Nat.{_≤_}
 use native.Mathlib.Omega.{arith}
 use borrow.Author.Needs.{needs}
-use Rattle.cue_film.proofs.words.print_bytes.Statement.{statement}
-use Rattle.cue_film.proofs.words.print_bytes.Tie as tie
+use Rattle.cue_words.proofs.words.print_bytes.Statement.{statement}
+use Rattle.cue_words.proofs.words.print_bytes.Tie as tie
 
 abbrev Inv-loop : tie.InvT-loop
 Inv-loop listing at count at₀ left₀ at' left = left ≤ count

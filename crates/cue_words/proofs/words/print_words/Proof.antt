@@ -2,8 +2,8 @@
 use native.Mathlib.Omega.{arith}
 use lib.ListN.{length-take}
 use borrow.Author.Needs.{needs}
-use Rattle.cue_film.proofs.words.print_words.Statement.{statement}
-use Rattle.cue_film.proofs.words.print_words.Tie as tie
+use Rattle.cue_words.proofs.words.print_words.Statement.{statement}
+use Rattle.cue_words.proofs.words.print_words.Tie as tie
 
 print-cut-requires : tie.Need-print-cut-requires
 print-cut-requires c κs = search needs

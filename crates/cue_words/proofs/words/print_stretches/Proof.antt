@@ -1,8 +1,8 @@
 -- Each turn tells some of the samples that are left.
 use Prim.Native.Nat.{_-_, _≤_}
 use borrow.Author.Needs.{needs}
-use Rattle.cue_film.proofs.words.print_stretches.Statement.{statement}
-use Rattle.cue_film.proofs.words.print_stretches.Tie as tie
+use Rattle.cue_words.proofs.words.print_stretches.Statement.{statement}
+use Rattle.cue_words.proofs.words.print_stretches.Tie as tie
 
 abbrev Inv-loop : tie.InvT-loop
 Inv-loop listing grouping-type at samples at₀ first₀ at' first = first ≤ samples

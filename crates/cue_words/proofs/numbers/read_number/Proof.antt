@@ -4,8 +4,8 @@ use native.Mathlib.Nat.{mul-le-mul-right}
 use native.Mathlib.Omega.{arith}
 use lib.ListN.{length, getD}
 use borrow.Author.Needs.{needs}
-use Rattle.cue_film.proofs.numbers.read_number.Statement.{statement}
-use Rattle.cue_film.proofs.numbers.read_number.Tie as tie
+use Rattle.cue_words.proofs.numbers.read_number.Statement.{statement}
+use Rattle.cue_words.proofs.numbers.read_number.Tie as tie
 
 abbrev Inv-loop : tie.InvT-loop
 Inv-loop listing at value₀ unit₀ i₀ value unit i = (value < unit) × (unit ≤ 9223372036854775808)
