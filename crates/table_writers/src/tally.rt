@@ -67,32 +67,25 @@ pub fn tally_rows(rows: &[RowNumber]) -> Tallied
 pub fn code_for(n: u32) -> u32
     ensures { λ r. ⌜ r ≡ codeFor n ⌝ }
 {
-    if n < 16 {
-        return 0;
+    match n {
+        0..=15 => 0,
+        16..=255 => 1,
+        256..=65535 => 2,
+        _ => 3,
     }
-    if n < 256 {
-        return 1;
-    }
-    if n < 65536 {
-        return 2;
-    }
-    3
 }
 
 // The half bytes of that width.
 pub fn halves_for(n: u32) -> usize
     ensures { λ r. ⌜ (4 * r ≡ widthOf (codeFor n)) × (r ≤ 8) ⌝ }
 {
-    if n < 16 {
-        return 1;
+    let code = code_for(n);
+    match code {
+        0 => 1,
+        1 => 2,
+        2 => 4,
+        _ => 8,
     }
-    if n < 256 {
-        return 2;
-    }
-    if n < 65536 {
-        return 4;
-    }
-    8
 }
 
 // The length of the csgp.
