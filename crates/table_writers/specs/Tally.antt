@@ -1,5 +1,5 @@
 -- What a csgp's length and codes rest on.
-use Prim.Native.Nat.{ℕ, _+_, _<_, _≤_, max}
+use Prim.Native.Nat.{ℕ, _+_, _*_, _<_, _≤_, max}
 use mathlib.Core.Path.{_≡_}
 use mathlib.Core.List.{List}
 use lib.ListN.{length}
@@ -7,7 +7,8 @@ use Rattle.base_ids.specs.Limits.{countLimit}
 use Rattle.table_rows.specs.Row.{Row}
 use Rattle.table_csgp_head.specs.Csgp.{widthOf}
 use Rattle.table_writing.specs.Joined.{largestCount, largestIndex}
-use Rattle.table_writing.specs.Bodies.{codeFor, lengthWith}
+use Rattle.table_writing.specs.Bodies.{codeFor}
+use Rattle.table_writing.specs.Fields.{bytesFor}
 use Rattle.table_writers.specs.declared.tally.Tally.{Tally}
 use Rattle.table_writers.specs.declared.tally.Tallied.{Tallied}
 use Rattle.table_writers.specs.declared.tally.Tallied.the-variants as tallied
@@ -25,5 +26,6 @@ abbrev pub GivesTally : List Row → Tallied → Type 0
 GivesTally rs (tallied.Rows t) = Tallies rs t
 GivesTally rs tallied.Over = countLimit < largestCount rs
 
+-- twelve bytes, and a pattern length of four bits, a count and an index for each row
 abbrev pub lengthBy : Tally → ℕ
-lengthBy t = lengthWith (t .rows) 4 (widthOf (codeFor (t .count))) (widthOf (codeFor (t .index)))
+lengthBy t = 12 + bytesFor (t .rows * (4 + widthOf (codeFor (t .count)) + widthOf (codeFor (t .index))))

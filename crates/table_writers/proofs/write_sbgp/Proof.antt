@@ -2,11 +2,9 @@
 use mathlib.Core.Path.{_≡_, sym, _∙_}
 use lib.ListN.{length}
 use Rattle.table_rows.specs.Row.{rowsOf}
-use Rattle.table_writing.specs.Bodies.{sbgpBytes, sbgpLength}
-use Rattle.table_writing.proofs.Sbgp.{sbgp-length}
+use Rattle.table_writing.specs.Bodies.{sbgpBytes}
 use Rattle.table_writing.proofs.Write.{offered-made}
-use Rattle.table_rows.proofs.RowAt.{rows-length}
-use Rattle.table_writers.proofs.Answering.{gives-refused, gives-bytes, over, few, disagrees, shorter}
+use Rattle.table_writers.proofs.Answering.{gives-refused, gives-bytes, over, few, disagrees, shorter, sbgp-size}
 use borrow.Author.Needs.{needs}
 use Rattle.table_writers.proofs.write_sbgp.Statement.{statement}
 use Rattle.table_writers.proofs.write_sbgp.Tie as tie
@@ -29,16 +27,19 @@ add-if2 c = search needs
 returns-2 : tie.Need-returns-2
 returns-2 c =
     let at-if = c .before .before in
-    let l = at-if .before .before .before .before .args .rows .now in
-    gives-refused _ (few _ (rw (at-if .before .record-count .ensures) at (at-if .if1 .left)) ∙ disagrees _ _ _ _ (λ e. c .if2 .taken (e ∙ rw (rows-length l, c .before .record-count2 .ensures))))
+    let a = at-if .before .before .before .before .args in
+    let size = sbgp-size (a .rows .now) (a .grouping-type) in
+    gives-refused _
+    (few _ (rw (at-if .before .record-count .ensures) at (at-if .if1 .left))
+    ∙ disagrees (a .quoted) _ (sbgpBytes (a .grouping-type) (rowsOf (a .rows .now))) (λ e. c .if2 .taken (e ∙ size ∙ rw (c .before .record-count2 .ensures))))
 
 returns-3 : tie.Need-returns-3
 returns-3 c =
     let at-if = c .before .before .before in
     let a = at-if .before .before .before .before .args in
-    let l = a .rows .now in
-    let needed : a .quoted ≡ sbgpLength (rowsOf l) = c .before .if2 .left ∙ rw (rows-length l, c .before .before .record-count2 .ensures) in
-    gives-refused _ (few _ (rw (at-if .before .record-count .ensures) at (at-if .if1 .left)) ∙ shorter _ _ _ _ needed (c .if3 .taken))
+    let bytes = sbgpBytes (a .grouping-type) (rowsOf (a .rows .now)) in
+    let needed : a .quoted ≡ length bytes = c .before .if2 .left ∙ rw (c .before .before .record-count2 .ensures) (sym (sbgp-size (a .rows .now) (a .grouping-type))) in
+    gives-refused _ (few _ (rw (at-if .before .record-count .ensures) at (at-if .if1 .left)) ∙ shorter (a .quoted) (length (a .out .now)) bytes needed (c .if3 .taken))
 
 put-sbgp-requires : tie.Need-put-sbgp-requires
 put-sbgp-requires c κs = search needs
@@ -52,11 +53,10 @@ returns-4 c =
     let short = put .before .before in
     let at-if = short .before .before .before in
     let a = at-if .before .before .before .before .args in
-    let l = a .rows .now in
-    let needed : a .quoted ≡ sbgpLength (rowsOf l) = short .before .if2 .left ∙ rw (rows-length l, short .before .before .record-count2 .ensures) in
-    let bytes = sbgpBytes (a .grouping-type) (rowsOf l) in
-    gives-bytes (a .out .now) (few _ (rw (at-if .before .record-count .ensures) at (at-if .if1 .left)) ∙ offered-made (sbgpLength (rowsOf l)) (a .quoted) (length (a .out .now)) bytes needed (short .if3 .left))
-    (needed ∙ sym (sbgp-length (a .grouping-type) (rowsOf l))) (put .put-sbgp .ensures)
+    let bytes = sbgpBytes (a .grouping-type) (rowsOf (a .rows .now)) in
+    let needed : a .quoted ≡ length bytes = short .before .if2 .left ∙ rw (short .before .before .record-count2 .ensures) (sym (sbgp-size (a .rows .now) (a .grouping-type))) in
+    gives-bytes (a .out .now) (few _ (rw (at-if .before .record-count .ensures) at (at-if .if1 .left)) ∙ offered-made (a .quoted) (length (a .out .now)) bytes needed (short .if3 .left))
+    needed (put .put-sbgp .ensures)
 
 pub write-sbgp-spec : {M : Type 1} → statement M
 write-sbgp-spec =
