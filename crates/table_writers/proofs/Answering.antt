@@ -2,11 +2,12 @@
 use mathlib.Core.Path.{_≡_, refl, ap, sym, _∙_}
 use Prim.Native.Nat.{ℕ, _+_, _*_, _<_, _≤_}
 use native.Mathlib.Omega.{arith}
-use borrow.Author.Tests.{lt-ltb, le-ltb, eq-eqb, ne-eqb}
+use borrow.Author.Tests.{lt-ltb, le-ltb, le-leb, lt-leb, eq-eqb, ne-eqb}
 use mathlib.Core.List.{List}
 use lib.ListN.{length}
 use Rattle.base_fields.specs.Answer.{Answer, given, refused, inFront}
-use Rattle.base_ids.specs.Limits.{countLimit, recordLimit}
+use Rattle.base_fields.specs.Number.{fieldBound}
+use Rattle.base_ids.specs.Limits.{recordLimit}
 use Rattle.table_rows.specs.Row.{rowsOf, recordsIn, withinRecords}
 use Rattle.table_rows.proofs.RowAt.{rows-length}
 use Rattle.table_writing.specs.Joined.{joined, remaining, largestCount}
@@ -52,16 +53,16 @@ module _ (l : List ℕ) where
 
 -- 28, else the rows that remain
 module _ (l : List ℕ) where
-  pub remains-over : countLimit < largestCount (joined (rowsOf l)) → remaining (rowsOf l) ≡ refused 28
+  pub remains-over : fieldBound ≤ largestCount (joined (rowsOf l)) → remaining (rowsOf l) ≡ refused 28
   unfolding remaining
-  remains-over h = simp (lt-ltb _ _ h)
+  remains-over h = simp (le-leb _ _ h)
 
   module _ (t : Tally) (o : Tallies (joined (rowsOf l)) t) where
     pub remains : remaining (rowsOf l) ≡ given (joined (rowsOf l))
     unfolding remaining
     remains =
-        let small : largestCount (joined (rowsOf l)) ≤ countLimit = omega (arith, o .count, o .small) in
-        simp (le-ltb countLimit (largestCount (joined (rowsOf l))) small)
+        let small : largestCount (joined (rowsOf l)) < fieldBound = omega (arith, o .count, o .small) in
+        simp (lt-leb fieldBound (largestCount (joined (rowsOf l))) small)
 
     pub tally-length : (type : ℕ) → lengthBy t ≡ length (csgpBytes type (joined (rowsOf l)))
     tally-length type = rw (o .rows, o .count, o .index) (sym (csgp-length type (joined (rowsOf l))))
@@ -73,8 +74,8 @@ module _ (l : List ℕ) where
         writeCsgp type l quoted room ≡ offered quoted room (csgpBytes type (joined (rowsOf l)))
     offered-csgp type quoted room h = few _ h ∙ rw remains refl
 
-  pub quoted-over : countLimit < largestCount (joined (rowsOf l)) → recordsIn l ≤ recordLimit → quoteCsgp l ≡ refused 28
+  pub quoted-over : fieldBound ≤ largestCount (joined (rowsOf l)) → recordsIn l ≤ recordLimit → quoteCsgp l ≡ refused 28
   quoted-over o h = few _ h ∙ rw (remains-over o) refl
 
-  pub written-over : (type quoted room : ℕ) → countLimit < largestCount (joined (rowsOf l)) → recordsIn l ≤ recordLimit → writeCsgp type l quoted room ≡ refused 28
+  pub written-over : (type quoted room : ℕ) → fieldBound ≤ largestCount (joined (rowsOf l)) → recordsIn l ≤ recordLimit → writeCsgp type l quoted room ≡ refused 28
   written-over type quoted room o h = few _ h ∙ rw (remains-over o) refl

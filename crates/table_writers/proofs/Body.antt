@@ -8,7 +8,7 @@ use lib.Dec.{ltb}
 use lib.ListN.{length}
 use lib.Seq.{sets, length-sets}
 use Rattle.base_fields.specs.Answer.{inFront}
-use Rattle.base_ids.specs.Limits.{countLimit}
+use Rattle.base_fields.specs.Number.{fieldBound}
 use Rattle.table_csgp_head.specs.Csgp.{widthOf}
 use Rattle.table_rows.specs.Row.{Row}
 use Rattle.table_writing.specs.Fields.{bitLength, bytesFrom, packed}
@@ -40,7 +40,7 @@ packed-none = refl
 
 -- mc half bytes a count, mi an index
 module _ (t : ℕ) (rs : List Row) (mc mi : ℕ) (cw : 4 * mc ≡ widthOf (countCode rs)) (iw : 4 * mi ≡ widthOf (indexCode rs)) (out : List ℕ)
-    (room : length (csgpBytes t rs) ≤ length out) (few : largestCount rs ≤ countLimit) (thin : mc ≤ 8) (lean : mi ≤ 8) where
+    (room : length (csgpBytes t rs) ≤ length out) (few : largestCount rs < fieldBound) (thin : mc ≤ 8) (lean : mi ≤ 8) where
   space : 24 + (1 + mc) * length rs + mi * length rs ≤ 2 * length out
   space =
       let n = length rs in

@@ -2,12 +2,13 @@
 use mathlib.Core.Bool.{not}
 use mathlib.Core.List.{List}
 use Prim.Native.Nat.{ℕ}
-use lib.Dec.{ltb, eqb}
+use lib.Dec.{ltb, leb, eqb}
 use lib.ListN.{length}
 use borrow.Author.Needs.{needs}
 use Rattle.base_fields.specs.Answer.{Answer}
+use Rattle.base_fields.specs.Number.{fieldBound}
 use Rattle.base_fields.proofs.Numbered.{Number, Numbered, by-refuseIf, by-andThen}
-use Rattle.base_ids.specs.Limits.{countLimit, recordLimit}
+use Rattle.base_ids.specs.Limits.{recordLimit}
 use Rattle.table_rows.specs.Row.{Row, rowsOf, recordsIn, withinRecords}
 use Rattle.table_writing.specs.Joined.{joined, remaining, largestCount}
 use Rattle.table_writing.specs.Bodies.{sbgpBytes, csgpBytes}
@@ -18,7 +19,7 @@ records-numbered n rest r = by-refuseIf Number Unit (ltb recordLimit n) 55 rest 
 
 remaining-numbered : (rs : List Row) → Numbered (remaining rs)
 unfolding remaining
-remaining-numbered rs = by-refuseIf Number Unit (ltb countLimit (largestCount (joined rs))) 28 _ (search needs) tt
+remaining-numbered rs = by-refuseIf Number Unit (leb fieldBound (largestCount (joined rs))) 28 _ (search needs) tt
 
 offered-numbered : (quoted room : ℕ) (bytes : List ℕ) → Numbered (offered quoted room bytes)
 offered-numbered quoted room bytes =

@@ -3,7 +3,7 @@ use Prim.Native.Nat.{ℕ, _+_, _*_, _<_, _≤_, max}
 use mathlib.Core.Path.{_≡_}
 use mathlib.Core.List.{List}
 use lib.ListN.{length}
-use Rattle.base_ids.specs.Limits.{countLimit}
+use Rattle.base_fields.specs.Number.{fieldBound}
 use Rattle.table_rows.specs.Row.{Row}
 use Rattle.table_csgp_head.specs.Csgp.{widthOf}
 use Rattle.table_writing.specs.Joined.{largestCount, largestIndex}
@@ -20,11 +20,11 @@ pub record Tallies (rs : List Row) (t : Tally) : Type 0 where
   pub rows : t .rows ≡ length rs
   pub count : t .count ≡ largestCount rs
   pub index : t .index ≡ largestIndex rs
-  pub small : t .count ≤ countLimit
+  pub small : t .count < fieldBound
 
 abbrev pub GivesTally : List Row → Tallied → Type 0
 GivesTally rs (tallied.Rows t) = Tallies rs t
-GivesTally rs tallied.Over = countLimit < largestCount rs
+GivesTally rs tallied.Over = fieldBound ≤ largestCount rs
 
 -- twelve bytes, and a pattern length of four bits, a count and an index for each row
 abbrev pub lengthBy : Tally → ℕ

@@ -10,34 +10,41 @@ ghost use Rattle.table_writers.specs.Tally.{GivesTally, lengthBy, counte
 use super::runs::NextRun;
 use super::runs::next_run;
 use base_ids::RowNumber;
+use base_ids::SampleCount;
 
 pub struct Tally {
     pub rows: usize,
-    pub count: u32,
+    pub count: SampleCount,
     pub index: u32,
 }
 
 pub enum Tallied {
     Rows(Tally),
-    // a count passes the limit
+    // a count does not fit a field
     Over,
 }
 
-fn larger(a: u32, b: u32) -> u32
+fn larger_count(a: SampleCount, b: SampleCount) -> SampleCount
+    ensures { λ r. ⌜ r ≡ max a b ⌝ }
+{
+    if a < b { b } else { a }
+}
+
+fn larger_index(a: u32, b: u32) -> u32
     ensures { λ r. ⌜ r ≡ max a b ⌝ }
 {
     if a < b { b } else { a }
 }
 
 // One row more.
-fn count_row(t: Tally, count: u32, index: u32) -> Tally
+fn count_row(t: Tally, count: SampleCount, index: u32) -> Tally
     requires { ⌜ t .rows ≤ recordLimit ⌝ }
     ensures { λ r. ⌜ r ≡ counted t count index ⌝ }
 {
     Tally {
         rows: t.rows + 1,
-        count: larger(t.count, count),
-        index: larger(t.index, index),
+        count: larger_count(t.count, count),
+        index: larger_index(t.index, index),
     }
 }
 
