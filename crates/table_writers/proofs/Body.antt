@@ -13,8 +13,8 @@ use Rattle.table_csgp_head.specs.Csgp.{widthOf}
 use Rattle.table_rows.specs.Row.{Row}
 use Rattle.table_writing.specs.Fields.{bitLength, bytesFrom, packed}
 use Rattle.table_writing.specs.Bodies.{body, codeFor, countCode, indexCode, flagsOf, pairFields, csgpBytes}
-use Rattle.table_writing.specs.Joined.{largestCount, largestIndex}
-use Rattle.table_writing.proofs.Choice.{either}
+use Rattle.table_writing.specs.Remaining.{largestCount, largestIndex}
+use Rattle.table_rows.proofs.Choice.{either}
 use Rattle.table_writing.proofs.Csgp.{csgp-length}
 use Rattle.table_writing.proofs.Put.{put-free}
 use Rattle.table_writers.specs.Words.{words}

@@ -10,7 +10,7 @@ use Rattle.base_fields.specs.Number.{fieldBound}
 use Rattle.table_rows.specs.Row.{Row}
 use Rattle.table_writing.specs.Fields.{Field, field, bitLength, packed}
 use Rattle.table_writing.specs.Bodies.{pairFields, indexFields}
-use Rattle.table_writing.specs.Joined.{largest, largestCount}
+use Rattle.table_writing.specs.Remaining.{largest, largestCount}
 use Rattle.table_writing.specs.Output.{halfPut, numberPut}
 use Rattle.table_writing.proofs.Parts.{bitLength-both}
 use Rattle.table_writing.proofs.Put.{put-half, put-number, half-length, half-low}

@@ -6,7 +6,7 @@ use mathlib.Core.List.{List, [], _∷_}
 use lib.ListN.{length}
 use Rattle.base_fields.specs.Number.{fieldBound}
 use Rattle.table_rows.specs.Row.{Row}
-use Rattle.table_writing.specs.Joined.{largest, largestCount, largestIndex}
+use Rattle.table_writing.specs.Remaining.{largest, largestCount, largestIndex}
 use Rattle.table_writers.specs.Runs.{row}
 use Rattle.table_writers.specs.Tally.{Tallies, counted}
 use Rattle.table_writers.specs.declared.tally.Tally.{Tally}

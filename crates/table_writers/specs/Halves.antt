@@ -5,7 +5,7 @@ use mathlib.Core.List.{List, [], _∷_}
 use lib.ListN.{length, getD}
 use Rattle.base_fields.specs.Number.{fieldBound}
 use Rattle.table_rows.specs.Row.{Row}
-use Rattle.table_writing.specs.Joined.{largestCount}
+use Rattle.table_writing.specs.Remaining.{largestCount}
 use Rattle.table_writing.specs.Output.{halfPut, numberPut}
 
 -- half byte h can be written: where it is the low half of a byte, that is 0

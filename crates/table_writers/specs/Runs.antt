@@ -5,7 +5,8 @@ use mathlib.Core.List.{List, [], _∷_}
 use lib.ListN.{getD, drop}
 use Rattle.base_fields.specs.Number.{fieldBound}
 use Rattle.table_rows.specs.Row.{Row, rowsOf, recordsIn, noRow}
-use Rattle.table_writing.specs.Joined.{joined, largestCount}
+use Rattle.table_rows.specs.Joined.{joined}
+use Rattle.table_writing.specs.Remaining.{largestCount}
 use Rattle.table_writers.specs.declared.runs.RunAt.{RunAt}
 use Rattle.table_writers.specs.declared.runs.NextRun.{NextRun}
 use Rattle.table_writers.specs.declared.runs.NextRun.the-variants as next

@@ -6,7 +6,7 @@ use lib.ListN.{length}
 use Rattle.base_fields.specs.Number.{fieldBound}
 use Rattle.table_rows.specs.Row.{Row}
 use Rattle.table_csgp_head.specs.Csgp.{widthOf}
-use Rattle.table_writing.specs.Joined.{largestCount, largestIndex}
+use Rattle.table_writing.specs.Remaining.{largestCount, largestIndex}
 use Rattle.table_writing.specs.Bodies.{codeFor}
 use Rattle.table_writing.specs.Fields.{bytesFor}
 use Rattle.table_writers.specs.declared.tally.Tally.{Tally}

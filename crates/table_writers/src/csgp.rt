@@ -6,7 +6,7 @@ ghost use Rattle.base_fields.specs.Answer.{inFront};
 ghost use Rattle.base_ids.specs.Limits.{recordLimit};
 ghost use Rattle.table_rows.specs.Row.{rowsOf, recordsIn};
 ghost use Rattle.table_writing.specs.Bodies.{csgpBytes};
-ghost use Rattle.table_writing.specs.Joined.{joined};
+ghost use Rattle.table_rows.specs.Joined.{joined};
 ghost use Rattle.table_writers.specs.Tally.{Tallies, lengthBy};
 ghost use Rattle.table_writers.specs.Halves.{Free, PutsRuns, pairsPut, indicesPut, pairPut};
 use super::runs::NextRun;

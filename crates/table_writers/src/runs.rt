@@ -3,7 +3,7 @@ ghost use mathlib.Core.List.{_∷_};
 ghost use Prim.Native.Nat.{_+_, _<_, _≤_};
 ghost use lib.ListN.{drop};
 ghost use Rattle.table_rows.specs.Row.{rowsOf, recordsIn};
-ghost use Rattle.table_writing.specs.Joined.{joined};
+ghost use Rattle.table_rows.specs.Joined.{joined};
 ghost use Rattle.table_writers.specs.Runs.{row, Passed, GivesNext};
 use base_ids::RowNumber;
 use base_ids::SampleCount;

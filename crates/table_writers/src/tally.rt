@@ -4,7 +4,7 @@ ghost use Prim.Native.Nat.{_*_, _≤_, max};
 ghost use Rattle.base_ids.specs.Limits.{recordLimit};
 ghost use Rattle.table_csgp_head.specs.Csgp.{widthOf};
 ghost use Rattle.table_rows.specs.Row.{rowsOf, recordsIn};
-ghost use Rattle.table_writing.specs.Joined.{joined};
+ghost use Rattle.table_rows.specs.Joined.{joined};
 ghost use Rattle.table_writing.specs.Bodies.{codeFor};
 ghost use Rattle.table_writers.specs.Tally.{GivesTally, lengthBy, counted};
 use super::runs::NextRun;

@@ -4,7 +4,7 @@ use native.Mathlib.Omega.{arith}
 use lib.ListN.{length}
 use Rattle.table_rows.specs.Row.{rowsOf}
 use Rattle.table_writing.specs.Bodies.{csgpBytes}
-use Rattle.table_writing.specs.Joined.{joined}
+use Rattle.table_rows.specs.Joined.{joined}
 use Rattle.table_writing.proofs.Write.{offered-made}
 use Rattle.table_writers.proofs.Walk.{remain-length}
 use Rattle.table_writers.proofs.Answering.{gives-refused, gives-bytes, over, disagrees, shorter, offered-csgp, tally-length, written-over}

@@ -8,7 +8,8 @@ use Rattle.base_fields.specs.Number.{fieldBound}
 use Rattle.table_csgp_head.specs.Csgp.{widthOf}
 use Rattle.table_rows.specs.Row.{Row, rowsOf}
 use Rattle.table_writing.specs.Bodies.{codeFor, countCode, indexCode, flagsOf, csgpBytes}
-use Rattle.table_writing.specs.Joined.{joined, largestCount}
+use Rattle.table_rows.specs.Joined.{joined}
+use Rattle.table_writing.specs.Remaining.{largestCount}
 use Rattle.table_writers.proofs.Answering.{tally-length}
 use Rattle.table_writers.proofs.Body.{code-small, pairs-ready, indices-ready, all-put}
 use Rattle.table_writers.proofs.Walk.{remain-length}

@@ -8,7 +8,7 @@ use mathlib.Core.List.{_∷_}
 use lib.ListN.{length, getD, drop}
 use Rattle.table_rows.specs.Row.{rowsOf, recordsIn, noRow}
 use Rattle.table_rows.proofs.RowAt.{rows-length}
-use Rattle.table_writing.specs.Joined.{joined}
+use Rattle.table_rows.specs.Joined.{joined}
 use Rattle.base_fields.specs.Number.{fieldBound}
 use Rattle.table_writers.specs.Runs.{row}
 use Rattle.table_writers.proofs.Walk.{join-skip, join-more, join-stop, join-end, join-largest}
