@@ -78,5 +78,6 @@ module _ (l : List ℕ) where
   pub quoted-over : fieldBound ≤ largestCount (joined (rowsOf l)) → recordsIn l ≤ recordLimit → quoteCsgp l ≡ refused 28
   quoted-over o h = few _ h ∙ rw (remains-over o) refl
 
-  pub written-over : (type quoted room : ℕ) → fieldBound ≤ largestCount (joined (rowsOf l)) → recordsIn l ≤ recordLimit → writeCsgp type l quoted room ≡ refused 28
+  pub written-over : (type quoted room : ℕ) → fieldBound ≤ largestCount (joined (rowsOf l)) → recordsIn l ≤ recordLimit →
+      writeCsgp type l quoted room ≡ refused 28
   written-over type quoted room o h = few _ h ∙ rw (remains-over o) refl

@@ -39,4 +39,5 @@ module _ (l : List ℕ) where
 
     pub write-csgp-numbered : Numbered (writeCsgp t l quoted room)
     write-csgp-numbered =
-        records-numbered (recordsIn l) _ (by-andThen Number Unit (remaining (rowsOf l)) _ (remaining-numbered (rowsOf l)) (λ rs _. offered-numbered quoted room (csgpBytes t rs)))
+        records-numbered (recordsIn l) _
+        (by-andThen Number Unit (remaining (rowsOf l)) _ (remaining-numbered (rowsOf l)) (λ rs _. offered-numbered quoted room (csgpBytes t rs)))

@@ -49,6 +49,7 @@ pub over-told : (rows : List Row) {n : ℕ} → remaining rows ≡ refused n →
 unfolding remaining
 over-told rows {n} e = by (leb fieldBound (largestCount (joined rows))) refl e
   where
-    by : (t : Bool) → leb fieldBound (largestCount (joined rows)) ≡ t → refuseIf t 28 (given (joined rows)) ≡ refused n → (n ≡ 28) × (fieldBound ≤ largestCount (joined rows))
+    by : (t : Bool) → leb fieldBound (largestCount (joined rows)) ≡ t → refuseIf t 28 (given (joined rows)) ≡ refused n →
+        (n ≡ 28) × (fieldBound ≤ largestCount (joined rows))
     by true t e = (cc, leb-true _ _ t)
     by false t e = let z : _≡_ {A = ℕ} 0 1 = cc in absurd (omega arith)

@@ -40,8 +40,8 @@ returns-2 c =
     let o = rw (measured .before .before .t .given .1) at (told .tally-rows .ensures) in
     let bytes = csgpBytes (a .grouping-type) (joined (rowsOf l)) in
     let size : measured .length-of .result ≡ length bytes = measured .length-of .ensures ∙ tally-length l _ o (a .grouping-type) in
-    gives-refused _
-    (offered-csgp l _ o _ _ _ (rw (told .before .before .record-count .ensures) at (told .before .if1 .left)) ∙ disagrees (a .quoted) (length (a .out .now)) bytes (λ e. c .if2 .taken (e ∙ sym size)))
+    let few = rw (told .before .before .record-count .ensures) at (told .before .if1 .left) in
+    gives-refused _ (offered-csgp l _ o _ _ _ few ∙ disagrees (a .quoted) (length (a .out .now)) bytes (λ e. c .if2 .taken (e ∙ sym size)))
 
 returns-3 : tie.Need-returns-3
 returns-3 c =
@@ -52,8 +52,8 @@ returns-3 c =
     let o = rw (measured .before .before .t .given .1) at (told .tally-rows .ensures) in
     let bytes = csgpBytes (a .grouping-type) (joined (rowsOf l)) in
     let needed : a .quoted ≡ length bytes = c .before .if2 .left ∙ measured .length-of .ensures ∙ tally-length l _ o (a .grouping-type) in
-    gives-refused _
-    (offered-csgp l _ o _ _ _ (rw (told .before .before .record-count .ensures) at (told .before .if1 .left)) ∙ shorter (a .quoted) (length (a .out .now)) bytes needed (c .if3 .taken))
+    let few = rw (told .before .before .record-count .ensures) at (told .before .if1 .left) in
+    gives-refused _ (offered-csgp l _ o _ _ _ few ∙ shorter (a .quoted) (length (a .out .now)) bytes needed (c .if3 .taken))
 
 put-csgp-requires : tie.Need-put-csgp-requires
 put-csgp-requires c κs =
@@ -81,9 +81,9 @@ returns-4 c =
     let o = rw (measured .before .before .t .given .1) at (told .tally-rows .ensures) in
     let bytes = csgpBytes (a .grouping-type) (joined (rowsOf l)) in
     let needed : a .quoted ≡ length bytes = short .before .if2 .left ∙ measured .length-of .ensures ∙ tally-length l _ o (a .grouping-type) in
-    gives-bytes (a .out .now)
-    (offered-csgp l _ o _ _ _ (rw (told .before .before .record-count .ensures) at (told .before .if1 .left)) ∙ offered-made (a .quoted) (length (a .out .now)) bytes needed (short .if3 .left))
-    needed (put .put-csgp .ensures)
+    let few = rw (told .before .before .record-count .ensures) at (told .before .if1 .left) in
+    let told-bytes = offered-csgp l _ o _ _ _ few ∙ offered-made (a .quoted) (length (a .out .now)) bytes needed (short .if3 .left) in
+    gives-bytes (a .out .now) told-bytes needed (put .put-csgp .ensures)
 
 returns-5 : tie.Need-returns-5
 returns-5 c =

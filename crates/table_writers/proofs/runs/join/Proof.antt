@@ -17,7 +17,8 @@ use Rattle.table_writers.proofs.runs.join.Tie as tie
 
 abbrev Inv-loop : tie.InvT-loop
 Inv-loop rows from count index records total₀ k₀ total k =
-    (k ≤ records) × (records ≡ recordsIn rows) × (from ≤ k) × (0 < total) × (total < fieldBound) × (joined (row count index ∷ drop from (rowsOf rows)) ≡ joined (row total index ∷ drop k (rowsOf rows)))
+    (k ≤ records) × (records ≡ recordsIn rows) × (from ≤ k) × (0 < total) × (total < fieldBound)
+    × (joined (row count index ∷ drop from (rowsOf rows)) ≡ joined (row total index ∷ drop k (rowsOf rows)))
 
 abbrev μ-loop : tie.MeasureT-loop
 μ-loop rows from count index records total₀ k₀ total k = records - k
