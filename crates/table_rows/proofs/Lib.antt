@@ -2,4 +2,8 @@ pub mod Front
 pub mod RowAt
 pub mod Rows
 pub mod Samples
+pub mod Choice
+pub mod Joined
+pub mod Joining
+pub mod Only
 pub mod Numbered

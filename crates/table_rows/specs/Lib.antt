@@ -1,3 +1,4 @@
 pub mod Row
+pub mod Joined
 pub mod Pattern
 pub mod Found

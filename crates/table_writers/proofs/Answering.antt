@@ -1,16 +1,21 @@
 -- What the four calls answer, by the tests that led there.
 use mathlib.Core.Path.{_≡_, refl, ap, sym, _∙_}
-use Prim.Native.Nat.{ℕ, _<_, _≤_}
+use Prim.Native.Nat.{ℕ, _+_, _*_, _<_, _≤_}
 use native.Mathlib.Omega.{arith}
-use borrow.Author.Tests.{lt-ltb, le-ltb, eq-eqb, ne-eqb}
+use borrow.Author.Tests.{lt-ltb, le-ltb, le-leb, lt-leb, eq-eqb, ne-eqb}
 use mathlib.Core.List.{List}
 use lib.ListN.{length}
 use Rattle.base_fields.specs.Answer.{Answer, given, refused, inFront}
-use Rattle.base_ids.specs.Limits.{countLimit, recordLimit}
+use Rattle.base_fields.specs.Number.{fieldBound}
+use Rattle.base_ids.specs.Limits.{recordLimit}
 use Rattle.table_rows.specs.Row.{rowsOf, recordsIn, withinRecords}
-use Rattle.table_writing.specs.Joined.{joined, remaining, largestCount}
-use Rattle.table_writing.specs.Bodies.{csgpBytes, csgpLength}
-use Rattle.table_writing.specs.Write.{quoteCsgp, offered, writeCsgp}
+use Rattle.table_rows.proofs.RowAt.{rows-length}
+use Rattle.table_rows.specs.Joined.{joined}
+use Rattle.table_writing.specs.Remaining.{remaining, largestCount}
+use Rattle.table_writing.specs.Bodies.{sbgpBytes, csgpBytes}
+use Rattle.table_writing.specs.Write.{quoteSbgp, quoteCsgp, offered, writeCsgp}
+use Rattle.table_writing.proofs.Sbgp.{sbgp-length}
+use Rattle.table_writing.proofs.Csgp.{csgp-length}
 use Rattle.table_writers.specs.Tally.{Tallies, lengthBy}
 use Rattle.table_writers.specs.Told.{GivesWritten}
 use Rattle.table_writers.specs.declared.tally.Tally.{Tally}
@@ -32,38 +37,47 @@ pub few : {A : Type 0} {n : ℕ} (rest : Answer A) → n ≤ recordLimit → wit
 few rest h = simp (le-ltb _ _ h)
 
 -- 63, then 64
-module _ (needed quoted room : ℕ) (bytes : List ℕ) where
-  pub disagrees : (quoted ≡ needed → ⊥) → offered needed quoted room bytes ≡ refused 63
-  disagrees d = simp (ne-eqb quoted needed d)
+module _ (quoted room : ℕ) (bytes : List ℕ) where
+  pub disagrees : (quoted ≡ length bytes → ⊥) → offered quoted room bytes ≡ refused 63
+  disagrees d = simp (ne-eqb quoted (length bytes) d)
 
-  pub shorter : quoted ≡ needed → room < quoted → offered needed quoted room bytes ≡ refused 64
-  shorter e h = simp (eq-eqb quoted needed e, lt-ltb room quoted h)
+  pub shorter : quoted ≡ length bytes → room < quoted → offered quoted room bytes ≡ refused 64
+  shorter e h = simp (eq-eqb quoted (length bytes) e, lt-ltb room quoted h)
+
+-- an sbgp's length by the records
+module _ (l : List ℕ) where
+  pub sbgp-size : (type : ℕ) → length (sbgpBytes type (rowsOf l)) ≡ 12 + 8 * recordsIn l
+  sbgp-size type = sbgp-length type (rowsOf l) ∙ rw (rows-length l) refl
+
+  pub quoted-sbgp : recordsIn l ≤ recordLimit → quoteSbgp l ≡ given (12 + 8 * recordsIn l)
+  quoted-sbgp h = few _ h ∙ ap given (sbgp-size 0)
 
 -- 28, else the rows that remain
 module _ (l : List ℕ) where
-  pub remains-over : countLimit < largestCount (joined (rowsOf l)) → remaining (rowsOf l) ≡ refused 28
+  pub remains-over : fieldBound ≤ largestCount (joined (rowsOf l)) → remaining (rowsOf l) ≡ refused 28
   unfolding remaining
-  remains-over h = simp (lt-ltb _ _ h)
+  remains-over h = simp (le-leb _ _ h)
 
   module _ (t : Tally) (o : Tallies (joined (rowsOf l)) t) where
     pub remains : remaining (rowsOf l) ≡ given (joined (rowsOf l))
     unfolding remaining
     remains =
-        let small : largestCount (joined (rowsOf l)) ≤ countLimit = omega (arith, o .count, o .small) in
-        simp (le-ltb countLimit (largestCount (joined (rowsOf l))) small)
+        let small : largestCount (joined (rowsOf l)) < fieldBound = omega (arith, o .count, o .small) in
+        simp (lt-leb fieldBound (largestCount (joined (rowsOf l))) small)
 
-    pub tally-length : lengthBy t ≡ csgpLength (joined (rowsOf l))
-    tally-length = rw (o .rows, o .count, o .index) refl
+    pub tally-length : (type : ℕ) → lengthBy t ≡ length (csgpBytes type (joined (rowsOf l)))
+    tally-length type = rw (o .rows, o .count, o .index) (sym (csgp-length type (joined (rowsOf l))))
 
     pub quoted-csgp : recordsIn l ≤ recordLimit → quoteCsgp l ≡ given (lengthBy t)
-    quoted-csgp h = few _ h ∙ rw (remains) (ap given (sym tally-length))
+    quoted-csgp h = few _ h ∙ rw remains (ap given (sym (tally-length 0)))
 
     pub offered-csgp : (type quoted room : ℕ) → recordsIn l ≤ recordLimit →
-        writeCsgp type l quoted room ≡ offered (lengthBy t) quoted room (csgpBytes type (joined (rowsOf l)))
-    offered-csgp type quoted room h = few _ h ∙ rw (remains, tally-length) refl
+        writeCsgp type l quoted room ≡ offered quoted room (csgpBytes type (joined (rowsOf l)))
+    offered-csgp type quoted room h = few _ h ∙ rw remains refl
 
-  pub quoted-over : countLimit < largestCount (joined (rowsOf l)) → recordsIn l ≤ recordLimit → quoteCsgp l ≡ refused 28
+  pub quoted-over : fieldBound ≤ largestCount (joined (rowsOf l)) → recordsIn l ≤ recordLimit → quoteCsgp l ≡ refused 28
   quoted-over o h = few _ h ∙ rw (remains-over o) refl
 
-  pub written-over : (type quoted room : ℕ) → countLimit < largestCount (joined (rowsOf l)) → recordsIn l ≤ recordLimit → writeCsgp type l quoted room ≡ refused 28
+  pub written-over : (type quoted room : ℕ) → fieldBound ≤ largestCount (joined (rowsOf l)) → recordsIn l ≤ recordLimit →
+      writeCsgp type l quoted room ≡ refused 28
   written-over type quoted room o h = few _ h ∙ rw (remains-over o) refl

@@ -8,13 +8,14 @@ use lib.Dec.{ltb}
 use lib.ListN.{length}
 use lib.Seq.{sets, length-sets}
 use Rattle.base_fields.specs.Answer.{inFront}
-use Rattle.base_ids.specs.Limits.{countLimit}
+use Rattle.base_fields.specs.Number.{fieldBound}
 use Rattle.table_csgp_head.specs.Csgp.{widthOf}
 use Rattle.table_rows.specs.Row.{Row}
 use Rattle.table_writing.specs.Fields.{bitLength, bytesFrom, packed}
-use Rattle.table_writing.specs.Bodies.{body, codeFor, countCode, indexCode, flagsOf, pairFields, csgpBytes, csgpLength}
-use Rattle.table_writing.specs.Joined.{largestCount, largestIndex}
-use Rattle.table_writing.proofs.Choice.{either}
+use Rattle.table_writing.specs.Bodies.{body, codeFor, countCode, indexCode, flagsOf, pairFields, csgpBytes}
+use Rattle.table_writing.specs.Remaining.{largestCount, largestIndex}
+use Rattle.table_rows.proofs.Choice.{either}
+use Rattle.table_writing.proofs.Csgp.{csgp-length}
 use Rattle.table_writing.proofs.Put.{put-free}
 use Rattle.table_writers.specs.Words.{words}
 use Rattle.table_writers.specs.Halves.{PutsRuns, pairsPut, indicesPut}
@@ -39,11 +40,11 @@ packed-none = refl
 
 -- mc half bytes a count, mi an index
 module _ (t : ℕ) (rs : List Row) (mc mi : ℕ) (cw : 4 * mc ≡ widthOf (countCode rs)) (iw : 4 * mi ≡ widthOf (indexCode rs)) (out : List ℕ)
-    (room : csgpLength rs ≤ length out) (few : largestCount rs ≤ countLimit) (thin : mc ≤ 8) (lean : mi ≤ 8) where
+    (room : length (csgpBytes t rs) ≤ length out) (few : largestCount rs < fieldBound) (thin : mc ≤ 8) (lean : mi ≤ 8) where
   space : 24 + (1 + mc) * length rs + mi * length rs ≤ 2 * length out
   space =
       let n = length rs in
-      let a : csgpLength rs ≡ 12 + (n * (4 + 4 * mc + 4 * mi) + 7) / 8 = rw (cw, iw) refl in
+      let a : length (csgpBytes t rs) ≡ 12 + (n * (4 + 4 * mc + 4 * mi) + 7) / 8 = csgp-length t rs ∙ rw (cw, iw) refl in
       let b : n * (1 + mc + mi) ≡ (1 + mc) * n + mi * n = mul-comm n (1 + mc + mi) ∙ add-mul (1 + mc) mi n in
       omega (arith, four n mc mi)
 

@@ -1,16 +1,16 @@
 -- Rows put into an output by half bytes: each step, and what all of them leave.
 use mathlib.Core.Path.{_≡_, refl, ap, _∙_}
-use Prim.Native.Nat.{ℕ, zero, suc, _+_, _*_, _/_, _%_, _^_, _≤_}
+use Prim.Native.Nat.{ℕ, zero, suc, _+_, _*_, _/_, _%_, _^_, _<_, _≤_}
 use native.Mathlib.Nat.{add-zero, mul-suc}
 use native.Mathlib.Omega.{arith}
 use mathlib.Core.List.{List, [], _∷_, _++_, append-assoc, append-nil}
 use lib.ListN.{length}
 use Rattle.base_fields.specs.Answer.{inFront}
-use Rattle.base_ids.specs.Limits.{countLimit}
+use Rattle.base_fields.specs.Number.{fieldBound}
 use Rattle.table_rows.specs.Row.{Row}
 use Rattle.table_writing.specs.Fields.{Field, field, bitLength, packed}
 use Rattle.table_writing.specs.Bodies.{pairFields, indexFields}
-use Rattle.table_writing.specs.Joined.{largest, largestCount}
+use Rattle.table_writing.specs.Remaining.{largest, largestCount}
 use Rattle.table_writing.specs.Output.{halfPut, numberPut}
 use Rattle.table_writing.proofs.Parts.{bitLength-both}
 use Rattle.table_writing.proofs.Put.{put-half, put-number, half-length, half-low}
@@ -36,7 +36,7 @@ module _ (n x : ℕ) {rs later : List Row} (e : rs ≡ row n x ∷ later) (each 
   more : each * length rs ≡ each * length later + each
   more = ap (λ (l : List Row). each * length l) e ∙ mul-suc each (length later)
 
-  later-counts : largestCount later ≤ countLimit
+  later-counts : largestCount later < fieldBound
   unfolding largest
   later-counts = let b = rw e at (o .counts) in omega arith
 

@@ -4,6 +4,7 @@ use Prim.Native.Nat.{ℕ, _<_, _≤_}
 use mathlib.Core.List.{List}
 use lib.ListN.{length, getD, take}
 use Rattle.base_fields.specs.Answer.{Answer, given, inputLimit, overwritten}
+use Rattle.base_fields.specs.Number.{fieldBound}
 use Rattle.base_fields.proofs.Answers.{given-first}
 use Rattle.table_rows.specs.Row.{rowsOf}
 use Rattle.table_sbgp.specs.Sbgp.{parseSbgp}
@@ -20,7 +21,7 @@ module _ (told : Answer (List ℕ)) (out after : List ℕ) {n : ℕ} (g : GivesW
       let r = given-first told (λ b. given (length b)) (sym (g .answer)) in
       (r .0, r .1, g .output ∙ ap (λ (a : Answer (List ℕ)). overwritten (λ b. b) a out) (r .1))
 
-module _ (t : ℕ) (l : List ℕ) (type : t < 4294967296) (numbers : (k : ℕ) → getD l k 0 < 4294967296) (quoted : ℕ)
+module _ (t : ℕ) (l : List ℕ) (type : t < fieldBound) (numbers : (k : ℕ) → getD l k 0 < fieldBound) (quoted : ℕ)
     (short : quoted ≤ inputLimit) (records : ℕ) (enough : length (rowsOf l) ≤ records) (out after : List ℕ) {n : ℕ} where
   pub sbgp-call-reads-back : GivesWritten (writeSbgp t l quoted (length out)) out after (written.Bytes n) →
       parseSbgp (take quoted after) records ≡ given (record { groupingType = t; parameter = 0; rows = rowsOf l })

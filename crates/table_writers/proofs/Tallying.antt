@@ -4,9 +4,9 @@ use Prim.Native.Nat.{ℕ, _+_, _<_, _≤_, max}
 use native.Mathlib.Omega.{arith}
 use mathlib.Core.List.{List, [], _∷_}
 use lib.ListN.{length}
-use Rattle.base_ids.specs.Limits.{countLimit}
+use Rattle.base_fields.specs.Number.{fieldBound}
 use Rattle.table_rows.specs.Row.{Row}
-use Rattle.table_writing.specs.Joined.{largest, largestCount, largestIndex}
+use Rattle.table_writing.specs.Remaining.{largest, largestCount, largestIndex}
 use Rattle.table_writers.specs.Runs.{row}
 use Rattle.table_writers.specs.Tally.{Tallies, counted}
 use Rattle.table_writers.specs.declared.tally.Tally.{Tally}
@@ -15,13 +15,13 @@ pub record Tallying (all rest : List Row) (t : Tally) : Type 0 where
   pub rows : t .rows + length rest ≡ length all
   pub count : max (t .count) (largestCount rest) ≡ largestCount all
   pub index : max (t .index) (largestIndex rest) ≡ largestIndex all
-  pub small : t .count ≤ countLimit
+  pub small : t .count < fieldBound
 
 pub tallying-first : (all : List Row) → Tallying all all (record { rows = 0; count = 0; index = 0 })
 tallying-first all = record { rows = omega arith; count = omega arith; index = omega arith; small = omega arith }
 
 module _ {all rest : List Row} {t : Tally} (o : Tallying all rest t) where
-  pub tallying-step : (n x : ℕ) {later : List Row} → rest ≡ row n x ∷ later → n ≤ countLimit → Tallying all later (counted t n x)
+  pub tallying-step : (n x : ℕ) {later : List Row} → rest ≡ row n x ∷ later → n < fieldBound → Tallying all later (counted t n x)
   unfolding largest
   tallying-step n x {later} e small =
       let a = rw e at (o .rows) in
@@ -37,5 +37,5 @@ module _ {all rest : List Row} {t : Tally} (o : Tallying all rest t) where
       let d = rw e at (o .index) in
       record { rows = omega arith; count = omega arith; index = omega arith; small = o .small }
 
-  pub tallying-over : countLimit < largestCount rest → countLimit < largestCount all
+  pub tallying-over : fieldBound ≤ largestCount rest → fieldBound ≤ largestCount all
   tallying-over h = omega (arith, o .count)

@@ -8,10 +8,11 @@ use lib.ListN.{length, getD, drop}
 use lib.Seq.{drop-length}
 use Rattle.table_rows.specs.Row.{Row, rowsOf, recordsIn, noRow}
 use Rattle.table_rows.proofs.RowAt.{rows-length, from-row}
-use Rattle.table_writing.specs.Joined.{joinedTo, joined, largest, largestCount}
-use Rattle.table_writing.proofs.Choice.{either}
-use Rattle.table_writing.proofs.Loop.{join-dropped, join-begun, join-last, join-empty, join-same, join-other}
-use Rattle.table_writing.proofs.Joined.{joined-length}
+use Rattle.table_rows.specs.Joined.{joinedTo, joined}
+use Rattle.table_writing.specs.Remaining.{largest, largestCount}
+use Rattle.table_rows.proofs.Choice.{either}
+use Rattle.table_rows.proofs.Joining.{join-dropped, join-begun, join-last, join-empty, join-same, join-other}
+use Rattle.table_rows.proofs.Joined.{joined-length}
 use Rattle.table_writers.specs.Runs.{row, GivesNext}
 use Rattle.table_writers.specs.declared.runs.NextRun.{NextRun}
 use Rattle.table_writers.specs.declared.runs.NextRun.the-variants as next

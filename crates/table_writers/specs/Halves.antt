@@ -1,11 +1,11 @@
 -- The fields of rows put into an output by half bytes.
-use Prim.Native.Nat.{ℕ, _+_, _*_, _/_, _%_, _≤_}
+use Prim.Native.Nat.{ℕ, _+_, _*_, _/_, _%_, _<_, _≤_}
 use mathlib.Core.Path.{_≡_}
 use mathlib.Core.List.{List, [], _∷_}
 use lib.ListN.{length, getD}
-use Rattle.base_ids.specs.Limits.{countLimit}
+use Rattle.base_fields.specs.Number.{fieldBound}
 use Rattle.table_rows.specs.Row.{Row}
-use Rattle.table_writing.specs.Joined.{largestCount}
+use Rattle.table_writing.specs.Remaining.{largestCount}
 use Rattle.table_writing.specs.Output.{halfPut, numberPut}
 
 -- half byte h can be written: where it is the low half of a byte, that is 0
@@ -26,7 +26,7 @@ indicesPut m h (r ∷ rs) out = indicesPut m (h + m) rs (numberPut m h (r .index
 
 -- rows can be put from half byte h on, `each` half bytes a row, `m` of them a number
 pub record PutsRuns (rs : List Row) (each m h : ℕ) (out : List ℕ) : Type 0 where
-  pub counts : largestCount rs ≤ countLimit
+  pub counts : largestCount rs < fieldBound
   pub room : h + each * length rs ≤ 2 * length out
   pub width : m ≤ 8
   pub free : Free h out

@@ -3,9 +3,10 @@ use Prim.Native.Nat.{ℕ, _<_, _≤_}
 use mathlib.Core.Path.{_≡_}
 use mathlib.Core.List.{List, [], _∷_}
 use lib.ListN.{getD, drop}
-use Rattle.base_ids.specs.Limits.{countLimit}
+use Rattle.base_fields.specs.Number.{fieldBound}
 use Rattle.table_rows.specs.Row.{Row, rowsOf, recordsIn, noRow}
-use Rattle.table_writing.specs.Joined.{joined, largestCount}
+use Rattle.table_rows.specs.Joined.{joined}
+use Rattle.table_writing.specs.Remaining.{largestCount}
 use Rattle.table_writers.specs.declared.runs.RunAt.{RunAt}
 use Rattle.table_writers.specs.declared.runs.NextRun.{NextRun}
 use Rattle.table_writers.specs.declared.runs.NextRun.the-variants as next
@@ -27,11 +28,11 @@ pub record Passed (l : List ℕ) (from to : ℕ) : Type 0 where
 -- rows begin with a run, and the others stand from a record on
 pub record Begins (rs : List Row) (l : List ℕ) (from : ℕ) (r : RunAt) : Type 0 where
   pub rows : rs ≡ row (r .count) (r .index) ∷ ahead l (r .next)
-  pub small : r .count ≤ countLimit
+  pub small : r .count < fieldBound
   pub onward : from ≤ r .next
   pub inside : r .next ≤ recordsIn l
 
 abbrev pub GivesNext : List Row → List ℕ → ℕ → NextRun → Type 0
 GivesNext rs l from (next.Run r) = Begins rs l from r
-GivesNext rs l from next.Over = countLimit < largestCount rs
+GivesNext rs l from next.Over = fieldBound ≤ largestCount rs
 GivesNext rs l from next.End = rs ≡ []

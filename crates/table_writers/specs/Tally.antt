@@ -1,13 +1,14 @@
 -- What a csgp's length and codes rest on.
-use Prim.Native.Nat.{ℕ, _+_, _<_, _≤_, max}
+use Prim.Native.Nat.{ℕ, _+_, _*_, _<_, _≤_, max}
 use mathlib.Core.Path.{_≡_}
 use mathlib.Core.List.{List}
 use lib.ListN.{length}
-use Rattle.base_ids.specs.Limits.{countLimit}
+use Rattle.base_fields.specs.Number.{fieldBound}
 use Rattle.table_rows.specs.Row.{Row}
 use Rattle.table_csgp_head.specs.Csgp.{widthOf}
-use Rattle.table_writing.specs.Joined.{largestCount, largestIndex}
-use Rattle.table_writing.specs.Bodies.{codeFor, lengthWith}
+use Rattle.table_writing.specs.Remaining.{largestCount, largestIndex}
+use Rattle.table_writing.specs.Bodies.{codeFor}
+use Rattle.table_writing.specs.Fields.{bytesFor}
 use Rattle.table_writers.specs.declared.tally.Tally.{Tally}
 use Rattle.table_writers.specs.declared.tally.Tallied.{Tallied}
 use Rattle.table_writers.specs.declared.tally.Tallied.the-variants as tallied
@@ -19,11 +20,12 @@ pub record Tallies (rs : List Row) (t : Tally) : Type 0 where
   pub rows : t .rows ≡ length rs
   pub count : t .count ≡ largestCount rs
   pub index : t .index ≡ largestIndex rs
-  pub small : t .count ≤ countLimit
+  pub small : t .count < fieldBound
 
 abbrev pub GivesTally : List Row → Tallied → Type 0
 GivesTally rs (tallied.Rows t) = Tallies rs t
-GivesTally rs tallied.Over = countLimit < largestCount rs
+GivesTally rs tallied.Over = fieldBound ≤ largestCount rs
 
+-- twelve bytes, and a pattern length of four bits, a count and an index for each row
 abbrev pub lengthBy : Tally → ℕ
-lengthBy t = lengthWith (t .rows) 4 (widthOf (codeFor (t .count))) (widthOf (codeFor (t .index)))
+lengthBy t = 12 + bytesFor (t .rows * (4 + widthOf (codeFor (t .count)) + widthOf (codeFor (t .index))))

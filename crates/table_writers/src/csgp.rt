@@ -6,7 +6,7 @@ ghost use Rattle.base_fields.specs.Answer.{inFront};
 ghost use Rattle.base_ids.specs.Limits.{recordLimit};
 ghost use Rattle.table_rows.specs.Row.{rowsOf, recordsIn};
 ghost use Rattle.table_writing.specs.Bodies.{csgpBytes};
-ghost use Rattle.table_writing.specs.Joined.{joined};
+ghost use Rattle.table_rows.specs.Joined.{joined};
 ghost use Rattle.table_writers.specs.Tally.{Tallies, lengthBy};
 ghost use Rattle.table_writers.specs.Halves.{Free, PutsRuns, pairsPut, indicesPut, pairPut};
 use super::runs::NextRun;
@@ -16,11 +16,12 @@ use super::tally::code_for;
 use super::tally::halves_for;
 use super::words::put_head;
 use base_ids::RowNumber;
+use base_ids::SampleCount;
 use table_half_bytes::put_half;
 use table_half_bytes::put_number;
 
 // The length 1 and a count of m half bytes, from half byte h on.
-fn put_pair(out: &mut [u8], h: usize, m: usize, count: u32)
+fn put_pair(out: &mut [u8], h: usize, m: usize, count: SampleCount)
     requires { ⌜ (h + 1 + m ≤ 2 * length (now out)) × (m ≤ 8) × Free h (now out) ⌝ }
     ensures { λ _. ⌜ now (out .exit) ≡ pairPut m h count (now (out .entry)) ⌝ }
 {

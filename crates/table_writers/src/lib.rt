@@ -33,17 +33,18 @@ pub enum WrittenTable {
 pub fn quote_sbgp(rows: &[RowNumber]) -> QuotedLength
     ensures { λ r. ⌜ toldLength r ≡ quoteSbgp (now (rows .entry)) ⌝ }
 {
-    if RECORD_LIMIT < record_count(rows) {
+    let records = record_count(rows);
+    if records > RECORD_LIMIT {
         return QuotedLength::Refused(55);
     }
-    QuotedLength::Length(12 + 8 * record_count(rows))
+    QuotedLength::Length(12 + 8 * records)
 }
 
 // The exact length of the csgp that gives the same samples.
 pub fn quote_csgp(rows: &[RowNumber]) -> QuotedLength
     ensures { λ r. ⌜ toldLength r ≡ quoteCsgp (now (rows .entry)) ⌝ }
 {
-    if RECORD_LIMIT < record_count(rows) {
+    if record_count(rows) > RECORD_LIMIT {
         return QuotedLength::Refused(55);
     }
     match tally_rows(rows) {
@@ -61,10 +62,11 @@ pub fn write_sbgp(
 ) -> WrittenTable
     ensures { λ r. ⌜ GivesWritten (writeSbgp «grouping_type» (now (rows .entry)) quoted (length (now (out .entry)))) (now (out .entry)) (now (out .exit)) r ⌝ }
 {
-    if RECORD_LIMIT < record_count(rows) {
+    let records = record_count(rows);
+    if RECORD_LIMIT < records {
         return WrittenTable::Refused(55);
     }
-    if quoted != 12 + 8 * record_count(rows) {
+    if quoted != 12 + 8 * records {
         return WrittenTable::Refused(63);
     }
     if out.len() < quoted {

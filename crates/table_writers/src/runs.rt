@@ -3,24 +3,27 @@ ghost use mathlib.Core.List.{_∷_};
 ghost use Prim.Native.Nat.{_+_, _<_, _≤_};
 ghost use lib.ListN.{drop};
 ghost use Rattle.table_rows.specs.Row.{rowsOf, recordsIn};
-ghost use Rattle.table_writing.specs.Joined.{joined};
+ghost use Rattle.table_rows.specs.Joined.{joined};
 ghost use Rattle.table_writers.specs.Runs.{row, Passed, GivesNext};
-use base_ids::COUNT_LIMIT;
 use base_ids::RowNumber;
+use base_ids::SampleCount;
 use table_rows::record::count_at;
 use table_rows::record::description_at;
 use table_rows::record::record_count;
 
+// The largest count that a written field holds: 32 bits, whatever the width of a count of samples.
+const FIELD_LIMIT: SampleCount = 4294967295;
+
 // A row that remains, and the record behind its last row.
 pub struct RunAt {
-    pub count: u32,
+    pub count: SampleCount,
     pub index: u32,
     pub next: usize,
 }
 
 pub enum NextRun {
     Run(RunAt),
-    // its count passes the limit
+    // its count does not fit a field
     Over,
     // no row is left
     End,
@@ -43,7 +46,7 @@ fn pass_empty(rows: &[RowNumber], from: usize) -> usize
 }
 
 // A run of `count` samples, joined with the like rows from a record on.
-fn join(rows: &[RowNumber], from: usize, count: u32, index: u32) -> NextRun
+fn join(rows: &[RowNumber], from: usize, count: SampleCount, index: u32) -> NextRun
     requires { ⌜ (from ≤ recordsIn (now rows)) × (0 < count) ⌝ }
     ensures { λ r. ⌜ GivesNext (joined (row count index ∷ drop from (rowsOf (now (rows .entry))))) (now (rows .entry)) from r ⌝ }
 {
@@ -60,7 +63,7 @@ fn join(rows: &[RowNumber], from: usize, count: u32, index: u32) -> NextRun
                     next: k,
                 });
             }
-            if COUNT_LIMIT - total < more {
+            if FIELD_LIMIT - total < more {
                 return NextRun::Over;
             }
             total = total + more;

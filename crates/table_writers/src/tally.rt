@@ -4,40 +4,47 @@ ghost use Prim.Native.Nat.{_*_, _≤_, max};
 ghost use Rattle.base_ids.specs.Limits.{recordLimit};
 ghost use Rattle.table_csgp_head.specs.Csgp.{widthOf};
 ghost use Rattle.table_rows.specs.Row.{rowsOf, recordsIn};
-ghost use Rattle.table_writing.specs.Joined.{joined};
+ghost use Rattle.table_rows.specs.Joined.{joined};
 ghost use Rattle.table_writing.specs.Bodies.{codeFor};
 ghost use Rattle.table_writers.specs.Tally.{GivesTally, lengthBy, counted};
 use super::runs::NextRun;
 use super::runs::next_run;
 use base_ids::RowNumber;
+use base_ids::SampleCount;
 
 pub struct Tally {
     pub rows: usize,
-    pub count: u32,
+    pub count: SampleCount,
     pub index: u32,
 }
 
 pub enum Tallied {
     Rows(Tally),
-    // a count passes the limit
+    // a count does not fit a field
     Over,
 }
 
-fn larger(a: u32, b: u32) -> u32
+fn larger_count(a: SampleCount, b: SampleCount) -> SampleCount
+    ensures { λ r. ⌜ r ≡ max a b ⌝ }
+{
+    if a < b { b } else { a }
+}
+
+fn larger_index(a: u32, b: u32) -> u32
     ensures { λ r. ⌜ r ≡ max a b ⌝ }
 {
     if a < b { b } else { a }
 }
 
 // One row more.
-fn count_row(t: Tally, count: u32, index: u32) -> Tally
+fn count_row(t: Tally, count: SampleCount, index: u32) -> Tally
     requires { ⌜ t .rows ≤ recordLimit ⌝ }
     ensures { λ r. ⌜ r ≡ counted t count index ⌝ }
 {
     Tally {
         rows: t.rows + 1,
-        count: larger(t.count, count),
-        index: larger(t.index, index),
+        count: larger_count(t.count, count),
+        index: larger_index(t.index, index),
     }
 }
 
@@ -67,32 +74,25 @@ pub fn tally_rows(rows: &[RowNumber]) -> Tallied
 pub fn code_for(n: u32) -> u32
     ensures { λ r. ⌜ r ≡ codeFor n ⌝ }
 {
-    if n < 16 {
-        return 0;
+    match n {
+        0..=15 => 0,
+        16..=255 => 1,
+        256..=65535 => 2,
+        _ => 3,
     }
-    if n < 256 {
-        return 1;
-    }
-    if n < 65536 {
-        return 2;
-    }
-    3
 }
 
 // The half bytes of that width.
 pub fn halves_for(n: u32) -> usize
     ensures { λ r. ⌜ (4 * r ≡ widthOf (codeFor n)) × (r ≤ 8) ⌝ }
 {
-    if n < 16 {
-        return 1;
+    let code = code_for(n);
+    match code {
+        0 => 1,
+        1 => 2,
+        2 => 4,
+        _ => 8,
     }
-    if n < 256 {
-        return 2;
-    }
-    if n < 65536 {
-        return 4;
-    }
-    8
 }
 
 // The length of the csgp.

@@ -1,11 +1,10 @@
 -- By what the tally tells, then by the tests that led to each answer.
-use mathlib.Core.Path.{sym, _∙_}
+use mathlib.Core.Path.{_≡_, sym, _∙_}
 use native.Mathlib.Omega.{arith}
 use lib.ListN.{length}
 use Rattle.table_rows.specs.Row.{rowsOf}
 use Rattle.table_writing.specs.Bodies.{csgpBytes}
-use Rattle.table_writing.specs.Joined.{joined}
-use Rattle.table_writing.proofs.Csgp.{csgp-length}
+use Rattle.table_rows.specs.Joined.{joined}
 use Rattle.table_writing.proofs.Write.{offered-made}
 use Rattle.table_writers.proofs.Walk.{remain-length}
 use Rattle.table_writers.proofs.Answering.{gives-refused, gives-bytes, over, disagrees, shorter, offered-csgp, tally-length, written-over}
@@ -39,7 +38,10 @@ returns-2 c =
     let a = told .before .before .before .before .before .args in
     let l = a .rows .now in
     let o = rw (measured .before .before .t .given .1) at (told .tally-rows .ensures) in
-    gives-refused _ (offered-csgp l _ o _ _ _ (rw (told .before .before .record-count .ensures) at (told .before .if1 .left)) ∙ disagrees _ _ _ _ (λ e. c .if2 .taken (e ∙ sym (measured .length-of .ensures))))
+    let bytes = csgpBytes (a .grouping-type) (joined (rowsOf l)) in
+    let size : measured .length-of .result ≡ length bytes = measured .length-of .ensures ∙ tally-length l _ o (a .grouping-type) in
+    let few = rw (told .before .before .record-count .ensures) at (told .before .if1 .left) in
+    gives-refused _ (offered-csgp l _ o _ _ _ few ∙ disagrees (a .quoted) (length (a .out .now)) bytes (λ e. c .if2 .taken (e ∙ sym size)))
 
 returns-3 : tie.Need-returns-3
 returns-3 c =
@@ -48,7 +50,10 @@ returns-3 c =
     let a = told .before .before .before .before .before .args in
     let l = a .rows .now in
     let o = rw (measured .before .before .t .given .1) at (told .tally-rows .ensures) in
-    gives-refused _ (offered-csgp l _ o _ _ _ (rw (told .before .before .record-count .ensures) at (told .before .if1 .left)) ∙ shorter _ _ _ _ (c .before .if2 .left ∙ measured .length-of .ensures) (c .if3 .taken))
+    let bytes = csgpBytes (a .grouping-type) (joined (rowsOf l)) in
+    let needed : a .quoted ≡ length bytes = c .before .if2 .left ∙ measured .length-of .ensures ∙ tally-length l _ o (a .grouping-type) in
+    let few = rw (told .before .before .record-count .ensures) at (told .before .if1 .left) in
+    gives-refused _ (offered-csgp l _ o _ _ _ few ∙ shorter (a .quoted) (length (a .out .now)) bytes needed (c .if3 .taken))
 
 put-csgp-requires : tie.Need-put-csgp-requires
 put-csgp-requires c κs =
@@ -74,11 +79,11 @@ returns-4 c =
     let a = told .before .before .before .before .before .args in
     let l = a .rows .now in
     let o = rw (measured .before .before .t .given .1) at (told .tally-rows .ensures) in
-    let needed = short .before .if2 .left ∙ measured .length-of .ensures in
     let bytes = csgpBytes (a .grouping-type) (joined (rowsOf l)) in
-    gives-bytes (a .out .now)
-    (offered-csgp l _ o _ _ _ (rw (told .before .before .record-count .ensures) at (told .before .if1 .left)) ∙ offered-made _ (a .quoted) (length (a .out .now)) bytes needed (short .if3 .left))
-    (needed ∙ tally-length l _ o ∙ sym (csgp-length (a .grouping-type) (joined (rowsOf l)))) (put .put-csgp .ensures)
+    let needed : a .quoted ≡ length bytes = short .before .if2 .left ∙ measured .length-of .ensures ∙ tally-length l _ o (a .grouping-type) in
+    let few = rw (told .before .before .record-count .ensures) at (told .before .if1 .left) in
+    let told-bytes = offered-csgp l _ o _ _ _ few ∙ offered-made (a .quoted) (length (a .out .now)) bytes needed (short .if3 .left) in
+    gives-bytes (a .out .now) told-bytes needed (put .put-csgp .ensures)
 
 returns-5 : tie.Need-returns-5
 returns-5 c =

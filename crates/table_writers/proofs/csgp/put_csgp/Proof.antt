@@ -1,14 +1,15 @@
 -- Head, pairs and indices, one behind the other (`Body`), with the widths that the tally names.
 use mathlib.Core.Path.{_≡_, ap, _∙_}
-use Prim.Native.Nat.{ℕ, _+_, _*_, _≤_}
+use Prim.Native.Nat.{ℕ, _+_, _*_, _<_, _≤_}
 use native.Mathlib.Omega.{arith}
 use mathlib.Core.List.{List}
 use lib.ListN.{length}
-use Rattle.base_ids.specs.Limits.{countLimit}
+use Rattle.base_fields.specs.Number.{fieldBound}
 use Rattle.table_csgp_head.specs.Csgp.{widthOf}
 use Rattle.table_rows.specs.Row.{Row, rowsOf}
-use Rattle.table_writing.specs.Bodies.{codeFor, countCode, indexCode, flagsOf, csgpLength}
-use Rattle.table_writing.specs.Joined.{joined, largestCount}
+use Rattle.table_writing.specs.Bodies.{codeFor, countCode, indexCode, flagsOf, csgpBytes}
+use Rattle.table_rows.specs.Joined.{joined}
+use Rattle.table_writing.specs.Remaining.{largestCount}
 use Rattle.table_writers.proofs.Answering.{tally-length}
 use Rattle.table_writers.proofs.Body.{code-small, pairs-ready, indices-ready, all-put}
 use Rattle.table_writers.proofs.Walk.{remain-length}
@@ -38,10 +39,10 @@ count-width c = indexed c .before .halves-for .ensures .0 ∙ ap (λ (n : ℕ). 
 index-width : (c : Headed) → 4 * indexed c .halves-for2 .result ≡ widthOf (indexCode (rows c))
 index-width c = indexed c .halves-for2 .ensures .0 ∙ ap (λ (n : ℕ). widthOf (codeFor n)) (start c .pre .1 .index)
 
-room : (c : Headed) → csgpLength (rows c) ≤ length (start c .args .out .now)
-room c = omega (arith, tally-length (start c .args .rows .now) (start c .args .t) (start c .pre .1), start c .pre .2)
+room : (c : Headed) → length (csgpBytes (start c .args .grouping-type) (rows c)) ≤ length (start c .args .out .now)
+room c = omega (arith, tally-length (start c .args .rows .now) (start c .args .t) (start c .pre .1) (start c .args .grouping-type), start c .pre .2)
 
-small : (c : Headed) → largestCount (rows c) ≤ countLimit
+small : (c : Headed) → largestCount (rows c) < fieldBound
 small c = omega (arith, start c .pre .1 .count, start c .pre .1 .small)
 
 flags : (c : Headed) → coded c .before .code-for .result * 4 + coded c .code-for2 .result ≡ flagsOf (rows c)

@@ -5,7 +5,7 @@ use native.Mathlib.Omega.{arith}
 use borrow.Author.Needs.{needs}
 use lib.ListN.{length}
 use Rattle.table_rows.specs.Row.{rowsOf, recordsIn}
-use Rattle.table_writing.specs.Joined.{joined}
+use Rattle.table_rows.specs.Joined.{joined}
 use Rattle.table_writers.specs.Runs.{ahead}
 use Rattle.table_writers.specs.Halves.{PutsRuns, indicesPut}
 use Rattle.table_writers.proofs.Halves.{number-length, number-free, row-room, row-put, indices-step, indices-end}

@@ -5,7 +5,7 @@ use native.Mathlib.Omega.{arith}
 use borrow.Author.Needs.{needs}
 use lib.ListN.{length}
 use Rattle.table_rows.specs.Row.{rowsOf, recordsIn}
-use Rattle.table_writing.specs.Joined.{joined}
+use Rattle.table_rows.specs.Joined.{joined}
 use Rattle.table_writers.specs.Runs.{ahead}
 use Rattle.table_writers.specs.Halves.{PutsRuns, pairsPut}
 use Rattle.table_writers.proofs.Halves.{row-room, row-put, pair-length, pair-free, pairs-step, pairs-place, pairs-end, place-end}

@@ -8,8 +8,8 @@ use mathlib.Core.List.{_∷_}
 use lib.ListN.{length, getD, drop}
 use Rattle.table_rows.specs.Row.{rowsOf, recordsIn, noRow}
 use Rattle.table_rows.proofs.RowAt.{rows-length}
-use Rattle.table_writing.specs.Joined.{joined}
-use Rattle.base_ids.specs.Limits.{countLimit}
+use Rattle.table_rows.specs.Joined.{joined}
+use Rattle.base_fields.specs.Number.{fieldBound}
 use Rattle.table_writers.specs.Runs.{row}
 use Rattle.table_writers.proofs.Walk.{join-skip, join-more, join-stop, join-end, join-largest}
 use Rattle.table_writers.proofs.runs.join.Statement.{statement}
@@ -17,7 +17,8 @@ use Rattle.table_writers.proofs.runs.join.Tie as tie
 
 abbrev Inv-loop : tie.InvT-loop
 Inv-loop rows from count index records total₀ k₀ total k =
-    (k ≤ records) × (records ≡ recordsIn rows) × (from ≤ k) × (0 < total) × (total ≤ countLimit) × (joined (row count index ∷ drop from (rowsOf rows)) ≡ joined (row total index ∷ drop k (rowsOf rows)))
+    (k ≤ records) × (records ≡ recordsIn rows) × (from ≤ k) × (0 < total) × (total < fieldBound)
+    × (joined (row count index ∷ drop from (rowsOf rows)) ≡ joined (row total index ∷ drop k (rowsOf rows)))
 
 abbrev μ-loop : tie.MeasureT-loop
 μ-loop rows from count index records total₀ k₀ total k = records - k

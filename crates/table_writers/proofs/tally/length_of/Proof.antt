@@ -1,5 +1,5 @@
 -- Four bits a half byte: (4 x + 7) / 8 is (x + 1) / 2.
-use Prim.Native.Nat.{_+_, _*_, _/_, _≤_}
+use Prim.Native.Nat.{_+_, _*_, _≤_}
 use native.Mathlib.Nat.{mul-le-mul}
 use native.Mathlib.Omega.{arith}
 use Rattle.base_ids.specs.Limits.{recordLimit}

@@ -3,7 +3,7 @@ use Prim.Native.Nat.{_-_, _≤_}
 use native.Mathlib.Omega.{arith}
 use borrow.Author.Needs.{needs}
 use Rattle.table_rows.specs.Row.{rowsOf, recordsIn}
-use Rattle.table_writing.specs.Joined.{joined}
+use Rattle.table_rows.specs.Joined.{joined}
 use Rattle.table_writers.specs.Runs.{ahead}
 use Rattle.table_writers.proofs.Walk.{remain-length}
 use Rattle.table_writers.proofs.Tallying.{Tallying, tallying-first, tallying-step, tallying-end, tallying-over}
