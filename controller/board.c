@@ -1,53 +1,9 @@
 /* The library on an emulated controller: the stored answers replayed through the C functions, document 01's starred cases, and for each call the instructions
- * and the stack that it takes. No library of C: text goes out by semihosting. The timer counts instructions (-icount shift=0), 40 of them to a tick. */
-#include <stddef.h>
-
-#include "film_index.h"
-
-/* Semihosting, and numbers as text. */
-static void host(int operation, const void *block) {
-    register int r0 __asm__("r0") = operation;
-    register const void *r1 __asm__("r1") = block;
-    __asm__ volatile("bkpt 0xab" : "+r"(r0) : "r"(r1) : "memory");
-}
-
-static void text(const char *s) { host(4, s); }
-
-static void number(uint64_t n) {
-    char digits[24];
-    int at = 23;
-    digits[at] = 0;
-    do {
-        digits[--at] = (char)('0' + n % 10);
-        n /= 10;
-    } while (n);
-    text(digits + at);
-}
-
-/* What the compiler may ask for. */
-void *memcpy(void *to, const void *from, size_t n) {
-    for (size_t k = 0; k < n; k++) ((volatile uint8_t *)to)[k] = ((const uint8_t *)from)[k];
-    return to;
-}
-void *memset(void *to, int byte, size_t n) {
-    for (size_t k = 0; k < n; k++) ((volatile uint8_t *)to)[k] = (uint8_t)byte;
-    return to;
-}
-void __aeabi_memcpy(void *to, const void *from, size_t n) { memcpy(to, from, n); }
-void __aeabi_memset(void *to, size_t n, int byte) { memset(to, byte, n); }
-void __aeabi_memclr(void *to, size_t n) { memset(to, 0, n); }
-void __aeabi_memcpy4(void *to, const void *from, size_t n) __attribute__((alias("__aeabi_memcpy")));
-void __aeabi_memcpy8(void *to, const void *from, size_t n) __attribute__((alias("__aeabi_memcpy")));
-void __aeabi_memset4(void *to, size_t n, int byte) __attribute__((alias("__aeabi_memset")));
-void __aeabi_memset8(void *to, size_t n, int byte) __attribute__((alias("__aeabi_memset")));
-void __aeabi_memclr4(void *to, size_t n) __attribute__((alias("__aeabi_memclr")));
-void __aeabi_memclr8(void *to, size_t n) __attribute__((alias("__aeabi_memclr")));
+ * and the stack that it takes. */
+#include "bare.h"
 
 /* Stored answers (docs/VECTORS.md): a line is a record in hexadecimal. */
 static uint8_t record[4096];
-#define ROOM (FILM_ROW_NUMBERS * 2048) /* numbers of the rows that are lent */
-static film_row_number rows[ROOM];
-static uint8_t listing[16384];
 
 /* What stands in an output before a table is written. */
 #define BEFORE 165
@@ -222,18 +178,9 @@ static void count_nulls(void) {
     text(taken == nulls ? " right\n" : " right  WRONG\n");
 }
 
-/* Counting: the timer runs down, 40 instructions to a tick. The stack below this frame is painted, and the deepest byte that changed is found. */
-#define SYST ((volatile uint32_t *)0xe000e010)
+/* The stack below this frame is painted, and the deepest byte that changed is found. */
 extern uint8_t stack_low[];
 static uint32_t idle, sink;
-
-static void begin(void) {
-    SYST[1] = 0xffffff;
-    SYST[2] = 0;
-    SYST[0] = 5;
-}
-
-static uint32_t ticks(void) { return 0xffffff - SYST[2]; }
 
 static uint8_t *here(void) { return (uint8_t *)__builtin_frame_address(0); }
 
@@ -457,6 +404,3 @@ void reset(void) {
     for (;;) {
     }
 }
-
-extern uint32_t stack_top[];
-__attribute__((section(".vectors"), used)) const void *const vectors[2] = {stack_top, (const void *)reset};

@@ -1,5 +1,5 @@
 //! The cue listing: a film of a million samples beside the same listing by the Rust's calls, and bodies made to be costly:
-//! `listing BODY BYTES ANSWER`.
+//! `listing BODY BYTES ANSWER SIDE`.
 
 use crate::bench::Bench;
 use crate::bench::calls::list;
@@ -28,8 +28,41 @@ fn put(out: &mut Vec<u8>, mut n: u64) {
     out.push(n as u8);
 }
 
-/// The listing of a type roll by the Rust's calls: the walk, the tables, one decoding of each entry, and the rows joined by what they mean.
-fn by_rust(s: &[u8]) -> Vec<u8> {
+/// What an entry decodes to: the numbers of a typed one, in the listing's order, or the bytes of another.
+#[derive(PartialEq)]
+enum Value<'a> {
+    Numbers(Vec<u64>),
+    Raw(&'a [u8]),
+}
+
+fn value_of<'a>(kind: &[u8; 4], s: &'a [u8]) -> Value<'a> {
+    use sample_groups as rust;
+    let shifted = |distance: i16| vec![(distance as i64 + 32_768) as u64];
+    Value::Numbers(match kind {
+        b"roll" => shifted(rust::decode_roll(s).unwrap().roll_distance),
+        b"prol" => shifted(rust::decode_prol(s).unwrap().roll_distance),
+        b"rap " => rust::decode_rap(s).map(|v| vec![v.num_leading_samples_known as u64, v.num_leading_samples as u64]).unwrap(),
+        b"tele" => vec![rust::decode_tele(s).unwrap().level_independently_decodable as u64],
+        b"sap " => rust::decode_sap(s).map(|v| vec![v.dependent as u64, v.sap_type as u64]).unwrap(),
+        b"rash" => {
+            let v = rust::decode_rash(s).unwrap();
+            let points = v.operation_points.iter().flat_map(|p| [p.available_bitrate as u64, p.target_rate_share as u64]);
+            let rest = [v.maximum_bitrate as u64, v.minimum_bitrate as u64, v.discard_priority as u64];
+            [v.operation_points.len() as u64].into_iter().chain(points).chain(rest).collect()
+        }
+        b"alst" => {
+            let v = rust::decode_alst(s).unwrap();
+            let pieces = v.pieces.iter().flat_map(|p| [p.num_output_samples as u64, p.num_total_samples as u64]);
+            let front = [v.roll_count as u64, v.first_output_sample as u64].into_iter().chain(v.sample_offsets.iter().map(|&o| o as u64));
+            front.chain([v.pieces.len() as u64]).chain(pieces).collect()
+        }
+        _ => return Value::Raw(s),
+    })
+}
+
+/// The listing of a type by the Rust's calls: the walk, the tables, which keep their entries in memory, one decoding of each entry that a row has, and the rows joined by
+/// what they mean.
+fn by_rust(kind: &[u8; 4], s: &[u8]) -> Vec<u8> {
     let (mut table, mut sgpd) = (None, None);
     atom::walk_children(&mut Cursor::new(s), Some(s.len() as u64), |r, h| {
         match &h.fourcc {
@@ -41,25 +74,35 @@ fn by_rust(s: &[u8]) -> Vec<u8> {
     })
     .unwrap();
     let (table, sgpd) = (table.unwrap(), sgpd.unwrap());
-    let values: Vec<u64> = sgpd.entries.iter().map(|e| (sample_groups::decode_roll(&e.payload).unwrap().roll_distance as i64 + 32_768) as u64).collect();
-    let mut stretches: Vec<(u64, u64, u64)> = Vec::new();
+    let mut values: Vec<Option<Value>> = (0..sgpd.entries.len()).map(|_| None).collect();
+    // the samples, the kind, and the entry from 0
+    let mut stretches: Vec<(u64, u64, usize)> = Vec::new();
     for row in &table.entries {
-        let (kind, value) = match row.group_description_index as usize {
+        let (row_kind, k) = match row.group_description_index as usize {
             0 => (0, 0),
-            k => values.get(k - 1).map_or((1, 0), |v| (2, *v)),
+            k if k > sgpd.entries.len() => (1, 0),
+            k => (2, k - 1),
         };
+        if row_kind == 2 && values[k].is_none() {
+            values[k] = Some(value_of(kind, &sgpd.entries[k].payload));
+        }
         match stretches.last_mut() {
-            Some((n, last, v)) if (*last, *v) == (kind, value) => *n += row.sample_count as u64,
-            _ => stretches.push((row.sample_count as u64, kind, value)),
+            Some((n, last, v)) if *last == row_kind && (row_kind < 2 || *v == k || values[*v] == values[k]) => *n += row.sample_count as u64,
+            _ => stretches.push((row.sample_count as u64, row_kind, k)),
         }
     }
-    let mut out = b"roll".to_vec();
+    let mut out = kind.to_vec();
     put(&mut out, table.covered_samples());
-    for (n, kind, value) in stretches {
+    for (n, row_kind, k) in stretches {
         put(&mut out, n);
-        put(&mut out, kind);
-        if kind == 2 {
-            put(&mut out, value);
+        put(&mut out, row_kind);
+        match &values.get(k).filter(|_| row_kind == 2) {
+            Some(Some(Value::Numbers(numbers))) => numbers.iter().for_each(|&n| put(&mut out, n)),
+            Some(Some(Value::Raw(bytes))) => {
+                put(&mut out, bytes.len() as u64);
+                out.extend_from_slice(bytes);
+            }
+            _ => {}
         }
     }
     out
@@ -70,9 +113,9 @@ pub fn million(bench: &mut Bench) {
     let mut rows = vec![0; ROW_NUMBERS * 4096];
     let mut listing = vec![0u8; 1 << 15];
     let [length, _] = list(&s, b"roll", &mut rows, &mut listing).unwrap();
-    assert_eq!(listing[..length as usize], by_rust(&s));
+    assert_eq!(listing[..length as usize], by_rust(b"roll", &s));
     bench.measure("entry\tcue_listing, 1,000,000 samples\tours".into(), || drop(black_box(list(&s, b"roll", &mut rows, &mut listing).unwrap())));
-    bench.measure("entry\tcue_listing, 1,000,000 samples\trust".into(), || drop(black_box(by_rust(&s))));
+    bench.measure("entry\tcue_listing, 1,000,000 samples\trust".into(), || drop(black_box(by_rust(b"roll", &s))));
 }
 
 /// What the program cue holds.
@@ -244,6 +287,14 @@ pub fn run(bench: &mut Bench) {
             Ok([length, count]) => format!("{count} rows, {length} bytes"),
             Err(n) => format!("refused {n}"),
         };
-        bench.once(format!("listing\t{name}\t{}\t{answer}", s.len()), || drop(black_box(list(&s, &kind, &mut rows, &mut listing))));
+        bench.once(format!("listing\t{name}\t{}\t{answer}\tours", s.len()), || drop(black_box(list(&s, &kind, &mut rows, &mut listing))));
+        // the Rust makes a row of every sample of a film of billions, so it is not asked for those
+        if cue {
+            let by_rust = black_box(by_rust);
+            if let Ok([length, _]) = list(&s, &kind, &mut rows, &mut listing) {
+                assert!(listing[..length as usize] == by_rust(&kind, &s), "{name}");
+            }
+            bench.once(format!("listing\t{name}\t{}\t{answer}\trust", s.len()), || drop(black_box(by_rust(&kind, &s))));
+        }
     }
 }
