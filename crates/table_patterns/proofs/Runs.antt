@@ -1,12 +1,12 @@
 -- Runs: one index, one more of the same, and a run of a pattern's indices as one of its samples.
-use mathlib.Core.Path.{_≡_, sym, _∙_}
+use mathlib.Core.Path.{_≡_, ap, sym, _∙_}
 use Prim.Native.Nat.{ℕ, _+_, _-_, _*_, _%_, _≤_, _<_}
 use native.Mathlib.Nat.{add-zero, mul-suc, mul-le-mul-left, mod-lt, mod-add-mod, mod-eq-of-lt}
 use native.Mathlib.Omega.{arith}
 use borrow.Author.Count.{below-more}
 use mathlib.Core.List.{List}
 use Rattle.table_rows.proofs.Samples.{samplesFrom-run}
-use Rattle.table_patterns.specs.Place.{indexNumber, patternIn}
+use Rattle.table_patterns.specs.Place.{indexValue, fieldNumber, indexNumber, patternIn}
 use Rattle.table_patterns.specs.Run.{GivesRun, AlikeIndices}
 use Rattle.table_patterns.specs.declared.run.Run.{Run}
 use Rattle.table_patterns.specs.declared.PatternAt.{PatternAt}
@@ -33,6 +33,11 @@ module _ (index : ℕ → ℕ) (k end : ℕ) where
         within = omega arith;
         same = below-more (λ (j : ℕ). index (k + j) ≡ v) n (r .same) e;
       }
+
+-- alike fields hold alike indices
+pub run-valued : (width place k end : ℕ) (s : List ℕ) (r : Run) {v : ℕ} → AlikeIndices (fieldNumber width s place) k end r → v ≡ indexValue (r .index) →
+    AlikeIndices (indexNumber width s place) k end (record { count = r .count; index = v })
+run-valued width place k end s r t e = record { some = t .some; within = t .within; same = λ j l. ap indexValue (t .same j l) ∙ sym e }
 
 -- a sample's place in a pattern of n indices, where the pattern does not end before it
 pub mod-step : (k j n : ℕ) → k % n + j < n → (k + j) % n ≡ k % n + j

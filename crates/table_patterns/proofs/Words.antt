@@ -7,7 +7,7 @@ use native.Mathlib.Omega.{arith}
 use mathlib.Core.List.{List}
 use Rattle.base_fields.specs.Number.{beAt, bitAt, bitsAt}
 use Rattle.base_fields.proofs.Bits.{Bytes, bit-of}
-use Rattle.table_patterns.specs.Place.{indexNumber}
+use Rattle.table_patterns.specs.Place.{fieldNumber}
 use Rattle.table_patterns.specs.Run.{AlikeIndices, alike, SameWords}
 
 module _ (s : List ℕ) (at stop : ℕ) where
@@ -58,7 +58,7 @@ module _ (s : List ℕ) (at stop : ℕ) where
 
 -- the words behind the first 18 of alike indices: all indices that end within them are alike too
 module _ (s : List ℕ) (width place from end stop behind v : ℕ) (bytes : Bytes s) (wide : 4 ≤ width) (whole : 64 % width ≡ 0)
-    (first : AlikeIndices (indexNumber width s place) from end (alike 18 v))
+    (first : AlikeIndices (fieldNumber width s place) from end (alike 18 v))
     (w : SameWords s ((place + width * from + width * 18) / 8) stop behind) where
   abbrev in-word : ℕ
   in-word = 64 / width
@@ -73,7 +73,7 @@ module _ (s : List ℕ) (width place from end stop behind v : ℕ) (bytes : Byte
         | no l ↦ let z : in-word ≡ 0 = omega arith in absurd (omega (arith, rw (z, mul-zero) at word-whole))
       ]
 
-  index-again : (j : ℕ) → 18 ≤ j → place + width * (from + j) + width ≤ 8 * behind → indexNumber width s place (from + j) ≡ indexNumber width s place (from + (j - in-word))
+  index-again : (j : ℕ) → 18 ≤ j → place + width * (from + j) + width ≤ 8 * behind → fieldNumber width s place (from + j) ≡ fieldNumber width s place (from + (j - in-word))
   index-again j l h =
       let few : in-word ≤ 16 = omega (arith, word-whole, mul-le-mul-right in-word wide) in
       let parts : from + j ≡ from + (j - in-word) + in-word = omega arith in
@@ -83,7 +83,7 @@ module _ (s : List ℕ) (width place from end stop behind v : ℕ) (bytes : Byte
       rw e (field-again s ((place + width * from + width * 18) / 8) stop bytes (omega arith) w width (place + width * (from + (j - in-word))) (omega arith) (omega arith))
 
   abbrev Alike : ℕ → Type 0
-  Alike j = place + width * (from + j) + width ≤ 8 * behind → indexNumber width s place (from + j) ≡ v
+  Alike j = place + width * (from + j) + width ≤ 8 * behind → fieldNumber width s place (from + j) ≡ v
 
   all-alike : (fuel j : ℕ) → j < fuel → Alike j
   all-alike zero j b h = absurd (omega arith)
@@ -103,7 +103,7 @@ module _ (s : List ℕ) (width place from end stop behind v : ℕ) (bytes : Byte
   far-samples = div-mul-le-self (8 * behind - (place + width * from)) width
 
   -- the indices that end within the words
-  pub far-run : stop ≡ (place + width * end) / 8 → (place + width * from ≤ 8 * behind) × AlikeIndices (indexNumber width s place) from end (alike farCount v)
+  pub far-run : stop ≡ (place + width * end) / 8 → (place + width * from ≤ 8 * behind) × AlikeIndices (fieldNumber width s place) from end (alike farCount v)
   far-run e =
       let positive : 0 < width = omega arith in
       let high : 72 ≤ width * 18 = omega (arith, wide) in

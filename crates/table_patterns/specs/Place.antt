@@ -10,11 +10,18 @@ use Rattle.table_patterns.specs.declared.PatternAt.{PatternAt}
 abbrev pub bitCount : List ℕ → ℕ
 bitCount s = 8 * length s
 
+-- the index that a field of these bits holds
+abbrev pub indexValue : ℕ → ℕ
+indexValue bits = bits
+
 -- the value of the index in `width` bits from bit place p
 abbrev pub indexField : ℕ → List ℕ → ℕ → ℕ
-indexField width s p = bitsAt width s p
+indexField width s p = indexValue (bitsAt width s p)
 
--- index number i, counted from 0, of those from bit place p on
+-- the bits of field number i, counted from 0, of those from bit place p on, and the index that it holds
+abbrev pub fieldNumber : ℕ → List ℕ → ℕ → ℕ → ℕ
+fieldNumber width s p i = bitsAt width s (p + width * i)
+
 abbrev pub indexNumber : ℕ → List ℕ → ℕ → ℕ → ℕ
 indexNumber width s p i = indexField width s (p + width * i)
 

@@ -4,10 +4,10 @@ pub mod run;
 
 ghost use mathlib.Core.Path.{_≡_};
 ghost use Prim.Native.Nat.{_+_, _≤_, _<_, min};
-ghost use lib.ListN.{length as size, getD};
-ghost use Rattle.base_fields.specs.Answer.{inputLimit};
+ghost use lib.ListN.{getD};
 ghost use Rattle.base_fields.specs.Number.{fieldBound};
-ghost use Rattle.table_patterns.specs.Place.{indexField, bitCount, patternIn, Stands};
+ghost use Rattle.table_patterns.specs.Place.{indexValue, indexField, bitCount, patternIn, Stands};
+use base_fields::late_bits;
 use base_ids::DescriptionIndex;
 use base_ids::PatternCount;
 
@@ -21,12 +21,19 @@ pub struct PatternAt {
     pub indices: usize,
 }
 
-// The index at a bit place.
-pub fn read_index(s: &[u8], at: usize, width: u32) -> u32
-    requires { ⌜ (width ≤ 32) × (64 ≤ at + width) × (at + width ≤ bitCount (now s)) × (size (now s) ≤ inputLimit) ⌝ }
-    ensures { λ r. ⌜ (r ≡ indexField width (now (s .entry)) at) × (r < fieldBound) ⌝ }
+// The index that the bits of one of a pattern's fields hold.
+fn index_value(bits: u32, pattern: PatternAt) -> u32
+    ensures { λ r. ⌜ (r ≡ indexValue bits) × (r < fieldBound) ⌝ }
 {
-    base_fields::late_bits(s, at, width)
+    bits
+}
+
+// The index at a bit place, which is that of one of a pattern's fields.
+pub fn read_index(s: &[u8], at: usize, pattern: PatternAt) -> u32
+    requires { ⌜ (Stands (now s) pattern) × (pattern .indices ≤ at) × (at + pattern .width ≤ bitCount (now s)) ⌝ }
+    ensures { λ r. ⌜ (r ≡ indexField (pattern .width) (now (s .entry)) at) × (r < fieldBound) ⌝ }
+{
+    index_value(late_bits(s, at, pattern.width), pattern)
 }
 
 // The index at a position, counted from 0.
@@ -34,9 +41,8 @@ pub fn index_at(s: &[u8], pattern: PatternAt, position: u32) -> DescriptionIndex
     requires { ⌜ (Stands (now s) pattern) × (position < pattern .length) ⌝ }
     ensures { λ r. ⌜ r .0 ≡ getD (patternIn (now (s .entry)) pattern .indices) position 0 ⌝ }
 {
-    let width = pattern.width;
-    let at = pattern.indices + (width as usize) * (position as usize);
-    DescriptionIndex(read_index(s, at, width))
+    let at = pattern.indices + (pattern.width as usize) * (position as usize);
+    DescriptionIndex(read_index(s, at, pattern))
 }
 
 // How many positions are used by a sample: the others' indices mean nothing.

@@ -1,12 +1,14 @@
-// Runs of equal indices within a pattern, so that no work is done for each single sample.
+// Runs of equal indices within a pattern, so that no work is done for each single sample. Fields of one width hold equal indices where their bits
+// are equal, so the bits are compared, and the index is made of them once for a run.
 ghost use mathlib.Core.Path.{_≡_};
 ghost use Prim.Native.Nat.{_+_, _*_, _≤_, _<_, min};
 ghost use lib.ListN.{length as size};
 ghost use Rattle.base_fields.specs.Answer.{inputLimit};
-ghost use Rattle.table_patterns.specs.Place.{bitCount, indexNumber, patternIn, Stands};
+ghost use Rattle.table_patterns.specs.Place.{bitCount, fieldNumber, patternIn, Stands};
 ghost use Rattle.table_patterns.specs.Run.{GivesRun, AlikeIndices, alike, SameWords};
 use crate::PatternAt;
-use crate::read_index;
+use crate::index_value;
+use base_fields::late_bits;
 use base_fields::read_u64;
 use base_ids::PatternCount;
 
@@ -16,18 +18,18 @@ pub struct Run {
     pub index: u32,
 }
 
-// The equal indices from number `from` on, before number `end`.
+// The equal fields from number `from` on, before number `end`, with their bits.
 fn equal_indices(s: &[u8], width: u32, place: usize, from: u32, end: u32) -> Run
     requires { ⌜ (width ≤ 32) × (64 ≤ place + width) × (from < end) × (place + width * end ≤ bitCount (now s)) × (size (now s) ≤ inputLimit) ⌝ }
-    ensures { λ r. ⌜ AlikeIndices (indexNumber width (now (s .entry)) place) from end r ⌝ }
+    ensures { λ r. ⌜ AlikeIndices (fieldNumber width (now (s .entry)) place) from end r ⌝ }
 {
     let step = width as usize;
     let mut at = place + step * (from as usize);
-    let index = read_index(s, at, width);
+    let index = late_bits(s, at, width);
     let mut count: u32 = 1;
     while from + count < end {
         at = at + step;
-        if read_index(s, at, width) != index {
+        if late_bits(s, at, width) != index {
             return Run { count, index };
         }
         count = count + 1;
@@ -62,8 +64,8 @@ const NEAR: u32 = 18;
 
 // How many indices are equal from number `from` on, before number `end`, where the first NEAR are: by whole words, then one by one.
 fn far_indices(s: &[u8], width: u32, place: usize, from: u32, end: u32, index: u32) -> u32
-    requires { ⌜ (width ≤ 32) × (64 ≤ place + width) × (place + width * end ≤ bitCount (now s)) × (size (now s) ≤ inputLimit) × AlikeIndices (indexNumber width (now s) place) from end (alike 18 index) ⌝ }
-    ensures { λ r. ⌜ AlikeIndices (indexNumber width (now (s .entry)) place) from end (alike r index) ⌝ }
+    requires { ⌜ (width ≤ 32) × (64 ≤ place + width) × (place + width * end ≤ bitCount (now s)) × (size (now s) ≤ inputLimit) × AlikeIndices (fieldNumber width (now s) place) from end (alike 18 index) ⌝ }
+    ensures { λ r. ⌜ AlikeIndices (fieldNumber width (now (s .entry)) place) from end (alike r index) ⌝ }
 {
     if width < 4 {
         return NEAR;
@@ -78,7 +80,7 @@ fn far_indices(s: &[u8], width: u32, place: usize, from: u32, end: u32, index: u
     let mut count = ((8 * words - start) / step) as u32;
     let mut at = start + step * (count as usize);
     while from + count < end {
-        if read_index(s, at, width) != index {
+        if late_bits(s, at, width) != index {
             return count;
         }
         at = at + step;
@@ -90,7 +92,7 @@ fn far_indices(s: &[u8], width: u32, place: usize, from: u32, end: u32, index: u
 // The same as `equal_indices`, faster where many are equal.
 fn alike_indices(s: &[u8], width: u32, place: usize, from: u32, end: u32) -> Run
     requires { ⌜ (width ≤ 32) × (64 ≤ place + width) × (from < end) × (place + width * end ≤ bitCount (now s)) × (size (now s) ≤ inputLimit) ⌝ }
-    ensures { λ r. ⌜ AlikeIndices (indexNumber width (now (s .entry)) place) from end r ⌝ }
+    ensures { λ r. ⌜ AlikeIndices (fieldNumber width (now (s .entry)) place) from end r ⌝ }
 {
     let first = equal_indices(s, width, place, from, from + least(end - from, NEAR));
     if first.count != NEAR {
@@ -112,11 +114,12 @@ pub fn run_at(s: &[u8], pattern: PatternAt, k: PatternCount) -> Run
     let left = pattern.count - k;
     let end = from + least(left, pattern.length - from);
     let run = alike_indices(s, pattern.width, pattern.indices, from, end);
+    let index = index_value(run.index, pattern);
     if run.count == pattern.length {
-        return Run {
-            count: left,
-            index: run.index,
-        };
+        return Run { count: left, index };
     }
-    run
+    Run {
+        count: run.count,
+        index,
+    }
 }

@@ -82,7 +82,7 @@ pub fn enter_singly(s: &[u8], pattern: PatternAt, state: ReplayState, room: usiz
     let mut tail = state.tail;
     let mut sample = state.sample;
     while sample < last {
-        let index = read_index(s, at, pattern.width);
+        let index = read_index(s, at, pattern);
         tail = match enter_single(tail, room, index) {
             Single::Next(next) => next,
             Single::Stop => return ReplayState { tail, sample, mark },
@@ -118,7 +118,7 @@ pub fn write_singly(
     let mut tail = state.tail;
     let mut sample = state.sample;
     while sample < last {
-        let index = read_index(s, at, pattern.width);
+        let index = read_index(s, at, pattern);
         tail = match enter_single(tail, room, index) {
             Single::Next(next) => next,
             Single::Stop => return ReplayState { tail, sample, mark },

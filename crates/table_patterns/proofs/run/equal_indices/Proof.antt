@@ -4,14 +4,14 @@ use Prim.Native.Nat.{_+_, _-_, _*_}
 use native.Mathlib.Nat.{mul-suc}
 use native.Mathlib.Omega.{arith}
 use borrow.Author.Needs.{needs}
-use Rattle.table_patterns.specs.Place.{indexNumber}
+use Rattle.table_patterns.specs.Place.{fieldNumber}
 use Rattle.table_patterns.specs.Run.{AlikeIndices}
 use Rattle.table_patterns.proofs.Runs.{field-end, run-one, run-more}
 use Rattle.table_patterns.proofs.run.equal_indices.Statement.{statement}
 use Rattle.table_patterns.proofs.run.equal_indices.Tie as tie
 
 abbrev Inv-loop : tie.InvT-loop
-Inv-loop s width place from end step at₀ index count₀ at count = AlikeIndices (indexNumber width s place) from end (record { count = count; index = index }) × (at + width ≡ place + width * (from + count))
+Inv-loop s width place from end step at₀ index count₀ at count = AlikeIndices (fieldNumber width s place) from end (record { count = count; index = index }) × (at + width ≡ place + width * (from + count))
 
 abbrev μ-loop : tie.MeasureT-loop
 μ-loop s width place from end step at₀ index count₀ at count = end - (from + count)
@@ -26,15 +26,15 @@ add-at c =
     let a = c .before .args in
     omega (arith, field-end (a .width) (a .place) (a .from) (a .end) (c .before .pre .2))
 
-read-index-requires : tie.Need-read-index-requires Inv-loop μ-loop
-read-index-requires c κs =
+late-bits-requires : tie.Need-late-bits-requires Inv-loop μ-loop
+late-bits-requires c κs =
     let a = c .before .args in
     omega (arith, field-end (a .width) (a .place) (a .from) (a .end) (c .before .pre .2))
 
 loop-holds : tie.Need-loop-holds Inv-loop μ-loop
 loop-holds c =
     let a = c .before .before .args in
-    (run-one _ (a .from) (a .end) (c .before .before .pre .2) (sym (c .read-index .ensures .0)), omega (arith, mul-suc (a .width) (a .from)))
+    (run-one _ (a .from) (a .end) (c .before .before .pre .2) (sym (c .late-bits .ensures .0)), omega (arith, mul-suc (a .width) (a .from)))
 
 add-loop : tie.Need-add-loop Inv-loop μ-loop
 add-loop c = search needs
@@ -44,8 +44,8 @@ add-at-2 c =
     let a = c .before .before .before .before .args in
     omega (arith, c .before .loop .inv .1, field-end (a .width) (a .place) (a .from + c .before .loop .count) (a .end) (c .loop-test .taken), c .before .before .before .before .pre .3, c .before .before .before .before .pre .4)
 
-read-index-requires-2 : tie.Need-read-index-requires-2 Inv-loop μ-loop
-read-index-requires-2 c κs =
+late-bits-requires-2 : tie.Need-late-bits-requires-2 Inv-loop μ-loop
+late-bits-requires-2 c κs =
     let a = c .before .before .before .before .args in
     omega (arith, c .before .loop .inv .1, field-end (a .width) (a .place) (a .from + c .before .loop .count) (a .end) (c .loop-test .taken), c .before .before .before .before .pre .0, c .before .before .before .before .pre .3)
 
@@ -62,7 +62,7 @@ loop-again : tie.Need-loop-again Inv-loop μ-loop
 loop-again c =
     let a = c .before .before .before .before .before .before .args in
     let i = c .before .before .before .loop .inv .1 in
-    let e = rw i at (c .before .read-index2 .ensures .0) in
+    let e = rw i at (c .before .late-bits2 .ensures .0) in
     (run-more _ (a .from) (a .end) (c .before .before .before .loop .inv .0) (c .before .before .loop-test .taken) (sym e ∙ c .if1 .left), omega (arith, mul-suc (a .width) (a .from + c .before .before .before .loop .count)))
 
 returns-2 : tie.Need-returns-2 Inv-loop μ-loop
@@ -76,11 +76,11 @@ equal-indices-spec =
     μ-loop
     mul-at
     add-at
-    read-index-requires
+    late-bits-requires
     loop-holds
     add-loop
     add-at-2
-    read-index-requires-2
+    late-bits-requires-2
     returns
     add-count
     loop-less

@@ -4,7 +4,7 @@ use Prim.Native.Nat.{_+_, _-_, _*_, _/_, _≤_}
 use native.Mathlib.Nat.{mul-suc, mul-add, mul-le-mul-left}
 use native.Mathlib.Omega.{arith}
 use borrow.Author.Needs.{needs}
-use Rattle.table_patterns.specs.Place.{indexNumber}
+use Rattle.table_patterns.specs.Place.{fieldNumber}
 use Rattle.table_patterns.specs.Run.{AlikeIndices, alike}
 use Rattle.table_patterns.proofs.Runs.{field-end, run-more}
 use Rattle.table_patterns.proofs.Words.{near-inside, far-run}
@@ -12,7 +12,7 @@ use Rattle.table_patterns.proofs.run.far_indices.Statement.{statement}
 use Rattle.table_patterns.proofs.run.far_indices.Tie as tie
 
 abbrev Inv-loop : tie.InvT-loop
-Inv-loop s width place from end index step start stop words count₀ at₀ count at = AlikeIndices (indexNumber width s place) from end (alike count index) × (at ≡ place + width * (from + count))
+Inv-loop s width place from end index step start stop words count₀ at₀ count at = AlikeIndices (fieldNumber width s place) from end (alike count index) × (at ≡ place + width * (from + count))
 
 abbrev μ-loop : tie.MeasureT-loop
 μ-loop s width place from end index step start stop words count₀ at₀ count at = end - (from + count)
@@ -35,7 +35,7 @@ abbrev Far : Behind → Type 0
 Far c =
     let a = start (c .before) .args in
     let first = a .place + a .width * a .from in
-    (first ≤ 8 * c .equal-words .result) × AlikeIndices (indexNumber (a .width) (a .s .now) (a .place)) (a .from) (a .end) (alike ((8 * c .equal-words .result - first) / a .width) (a .index))
+    (first ≤ 8 * c .equal-words .result) × AlikeIndices (fieldNumber (a .width) (a .s .now) (a .place)) (a .from) (a .end) (alike ((8 * c .equal-words .result - first) / a .width) (a .index))
 
 far : (c : Behind) → Far c
 far c =
@@ -113,8 +113,8 @@ loop-holds c =
 add-loop : tie.Need-add-loop Inv-loop μ-loop
 add-loop c = omega (arith, c .loop .inv .0 .within)
 
-read-index-requires : tie.Need-read-index-requires Inv-loop μ-loop
-read-index-requires c κs =
+late-bits-requires : tie.Need-late-bits-requires Inv-loop μ-loop
+late-bits-requires c κs =
     let at-loop = c .before in
     let from-start = start (at-loop .before .before) in
     let a = from-start .args in
@@ -144,7 +144,7 @@ loop-again : tie.Need-loop-again Inv-loop μ-loop
 loop-again c =
     let at-loop = c .before .before .before in
     let a = start (at-loop .before .before) .args in
-    let e = rw (at-loop .loop .inv .1) at (c .before .read-index .ensures .0) in (
+    let e = rw (at-loop .loop .inv .1) at (c .before .late-bits .ensures .0) in (
       run-more _ (a .from) (a .end) (at-loop .loop .inv .0) (c .before .before .loop-test .taken) (sym e ∙ c .if3 .left),
       omega (arith, mul-suc (a .width) (a .from + at-loop .loop .count), at-loop .loop .inv .1),
     )
@@ -178,7 +178,7 @@ far-indices-spec =
     add-at
     loop-holds
     add-loop
-    read-index-requires
+    late-bits-requires
     returns-3
     add-at-2
     add-count

@@ -6,7 +6,8 @@ use native.Mathlib.Omega.{arith}
 use borrow.Author.Needs.{needs}
 use Rattle.table_patterns.specs.Place.{indexNumber}
 use Rattle.table_patterns.specs.Run.{AlikeIndices}
-use Rattle.table_patterns.proofs.Runs.{run-part, run-all, gives-run}
+use Rattle.table_patterns.specs.declared.PatternAt.{PatternAt}
+use Rattle.table_patterns.proofs.Runs.{run-valued, run-part, run-all, gives-run}
 use Rattle.table_patterns.proofs.run.run_at.Statement.{statement}
 use Rattle.table_patterns.proofs.run.run_at.Tie as tie
 
@@ -45,27 +46,50 @@ alike-indices-requires c κs =
     let h : turn start + c .least .result ≤ p .length = omega arith in
     (start .pre .0 .narrow, start .pre .0 .late, omega (arith, start .pre .1), omega (arith, mul-le-mul-left (p .width) h, start .pre .0 .inside), start .pre .0 .short)
 
+index-value-requires : tie.Need-index-value-requires
+index-value-requires c κs = search needs
+
+-- the run of indices that was found, up to its end in the period
+module _ (c : tie.After-index-value) where
+  abbrev found : tie.After-alike-indices
+  found = c .before
+
+  abbrev start : tie.Start
+  start = entry (found .before)
+
+  abbrev place : PatternAt
+  place = start .args .pattern
+
+  abbrev index : ℕ → ℕ
+  index = indexNumber (place .width) (start .args .s .now) (place .indices)
+
+  abbrev stop : ℕ
+  stop = turn start + found .before .least .result
+
+  alike : AlikeIndices index (turn start) stop (record { count = found .alike-indices .result .count; index = c .index-value .result })
+  alike =
+      run-valued (place .width) (place .indices) (turn start) stop (start .args .s .now) (found .alike-indices .result) (found .alike-indices .ensures)
+      (c .index-value .ensures .0)
+
 returns : tie.Need-returns
 returns c =
-    let found = c .before .before .before in
-    let start = entry (found .before) in
-    let p = start .args .pattern in
-    let f = indexNumber (p .width) (start .args .s .now) (p .indices) in
-    let m = turn-below start in
-    let end = turn start + found .before .least .result in
-    let t = subst (λ (n : ℕ). AlikeIndices f (turn start) end (record { count = n; index = found .alike-indices .result .index })) (c .if1 .taken) (found .alike-indices .ensures) in
-    gives-run (start .args .s .now) p (start .args .k) _ (start .pre .0 .some)
-    (run-all f (p .length) (start .args .k) (p .count) (start .pre .0 .some) _ _ t (omega (arith, found .before .least .ensures)) (start .pre .1))
+    let valued = c .before .before .before in
+    let begin = start valued in
+    let p = place valued in
+    let m = turn-below begin in
+    let t = subst (λ (n : ℕ). AlikeIndices (index valued) (turn begin) (stop valued) (record { count = n; index = valued .index-value .result })) (c .if1 .taken) (alike valued) in
+    gives-run (begin .args .s .now) p (begin .args .k) _ (begin .pre .0 .some)
+    (run-all (index valued) (p .length) (begin .args .k) (p .count) (begin .pre .0 .some) _ _ t (omega (arith, found valued .before .least .ensures)) (begin .pre .1))
 
 returns-2 : tie.Need-returns-2
 returns-2 c =
-    let found = c .before .before .before in
-    let start = entry (found .before) in
-    let p = start .args .pattern in
-    let m = turn-below start in
-    let n = found .before .least .ensures in
-    gives-run (start .args .s .now) p (start .args .k) _ (start .pre .0 .some)
-    (run-part _ (p .length) (start .args .k) (p .count) (start .pre .0 .some) _ _ (found .alike-indices .ensures) (omega arith) (omega arith) (start .pre .1))
+    let valued = c .before .before .before in
+    let begin = start valued in
+    let p = place valued in
+    let m = turn-below begin in
+    let n = found valued .before .least .ensures in
+    gives-run (begin .args .s .now) p (begin .args .k) _ (begin .pre .0 .some)
+    (run-part _ (p .length) (begin .args .k) (p .count) (begin .pre .0 .some) _ _ (alike valued) (omega arith) (omega arith) (begin .pre .1))
 
 pub run-at-spec : {M : Type 1} → statement M
 run-at-spec =
@@ -77,5 +101,6 @@ run-at-spec =
     least-requires
     add-end
     alike-indices-requires
+    index-value-requires
     returns
     returns-2)

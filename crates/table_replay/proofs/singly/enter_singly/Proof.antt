@@ -94,7 +94,7 @@ read-index-requires c κs =
     let at-loop : At-loop = c .before in
     let h = start (known at-loop) .pre in
     let e = at-loop .loop .inv .2 in
-    (h .narrow, omega (arith, h .late, e), omega (arith, e, h .inside, turn-end (known at-loop) _ (turn-below at-loop (c .loop-test .taken))), h .short)
+    (h, omega (arith, e), omega (arith, e, h .inside, turn-end (known at-loop) _ (turn-below at-loop (c .loop-test .taken))))
 
 enter-single-requires : tie.Need-enter-single-requires Inv-loop μ-loop
 enter-single-requires c κs = search needs

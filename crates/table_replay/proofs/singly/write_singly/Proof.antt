@@ -97,7 +97,7 @@ read-index-requires c κs =
     let l : At-loop = c .before in
     let h = start (known l) .pre .0 in
     let e = l .loop .inv .2 in
-    (h .narrow, omega (arith, h .late, e), omega (arith, e, h .inside, turn-end (known l) _ (turn-below l (c .loop-test .taken))), h .short)
+    (h, omega (arith, e), omega (arith, e, h .inside, turn-end (known l) _ (turn-below l (c .loop-test .taken))))
 
 enter-single-requires : tie.Need-enter-single-requires Inv-loop μ-loop
 enter-single-requires c κs = search needs
