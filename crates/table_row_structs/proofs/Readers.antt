@@ -1,4 +1,4 @@
--- What the readers of a lent slice of rows share: the slice and its token, and the calls of `row_count`, `row_in`, `rows_read` and `place_of`.
+-- What the readers of a lent slice of rows share: the slice and its token, and the calls of `row_count`, `row_in` and `rows_read`.
 -- The slice is Copy: a call is given one copy of what it owns, and the other is kept.
 use Rattle.base_walk.proofs.Walking.{_≡_, refl, ℕ, _<_, _^_, List, [], _∷_, length, URA, Ty, named, imm, w64, tyInt, tyRef, Val, vint, SProp, ent, sep, id⊢, exE, snd∗, Lft, Share, Fml, ftrue, flft, Memory, Routine, Heap, Env, Calls, Loops, Atoms, sem, Fun, fact, Given, Item, ‵, raw, runs, _⊛_, ⋆, _$_, _∵_, !, qed, move, drop, use0, use1, use2, split, join, fjoin, frame, done, FmC, RattleType, owns, Is, pointee, uint-makes, uint-tells, usize, RefT, sliceTy, sliceVal, ShrSlice, shr-slice-copy, owned, nothing, Contract, Triple, ensured, lasts, tripleOf, says}
 use lib.ListN.{getD}
@@ -6,7 +6,7 @@ use mir.Syntax.{Place as Place′, Opd as Operand, Body as Code, seq, call}
 use types.Kit.{Post, Seq, lands}
 use types.Run.{Opds}
 use denote.Struct.Laws as LL
-use Rattle.table_row_structs.specs.Records.{noRow, readCount, placeIn}
+use Rattle.table_row_structs.specs.Records.{noRow, readCount}
 use Rattle.table_row_structs.specs.declared.SampleToGroupEntry.{SampleToGroupEntry}
 use Rattle.base_walk.proofs.Calls.{Heard, Known, calls-give}
 use Rattle.table_row_structs.proofs.SampleToGroupEntry as T
@@ -17,8 +17,6 @@ use Rattle.table_row_structs.proofs.row_in as at
 use Rattle.table_row_structs.proofs.row_in.Symbol.{name as #at}
 use Rattle.table_row_structs.proofs.rows_read as read
 use Rattle.table_row_structs.proofs.rows_read.Symbol.{name as #read}
-use Rattle.table_row_structs.proofs.place_of as place
-use Rattle.table_row_structs.proofs.place_of.Symbol.{name as #place}
 
 abbrev pub Entry : RattleType
 Entry = T.the-row
@@ -44,33 +42,6 @@ module _ {M : Type 1} (𝓤 : URA M) (H : Heap 𝓤) (A : Atoms 𝓤) (mem : Mem
 
   abbrev pub Read : Contract 𝓤
   Read = tripleOf 𝓤 H A read.signature (read.spec 𝓤 H A mem run)
-
-  abbrev pub Place : Contract 𝓤
-  Place = tripleOf 𝓤 H A place.signature (place.spec 𝓤 H A mem run)
-
-  -- the call of `place_of`
-  module _ (n k : ℕ) where
-    abbrev pub to-place : Place .Ghost
-    to-place = ((tt, tt, tt, (n, (k, tt)), (vint w64 n ∷ [], (vint w64 k ∷ [], tt))), tt)
-
-    abbrev place-heard : Heard 𝓤 usize (λ r. r ≡ placeIn n k)
-    place-heard = record {
-      said = λ r. ensured 𝓤 H A place.ended (place.clauses 𝓤 H A mem run) tt (n, (k, tt)) tt r;
-      fact-of = λ r. exE 𝓤 _ (λ ws. snd∗ 𝓤 (sem 𝓤 H A (lasts place.ended tt (n, (k, tt)) ws)) (fact 𝓤 (r ≡ placeIn n k)));
-    }
-
-    module _ (W : Given 𝓤 H A) (gn : n < 2 ^ 64) (gk : k < 2 ^ 64) where
-      asks-place : ent 𝓤 (⋆ 𝓤 H A []) (Place .pre to-place)
-      asks-place =
-          qed W [] ∵ nothing ! $ nothing ! $ owned ! usize (Is usize) (uint-makes 𝓤 H A W w64) k _ (refl, gk) $ fjoin ! $ owned ! usize (Is usize) (uint-makes 𝓤 H A W w64) n _ (refl, gn) $ fjoin ! $
-          move ! (1 ∷ 0 ∷ []) $ join ! $ frame ! $ done !
-
-      module _ {K : Type 0} {Γ : List (Item 𝓤)} {E : Env 𝓤 H} {C : Calls 𝓤 H} {Λ : Loops 𝓤 H} {xs : List Operand} {p : Post 𝓤 H} {d : Place′} {rest : Code} where
-        pub calls-place : K → FmC 𝓤 H (W .laws) C → Triple 𝓤 (C #place) Place → Opds K W (raw (Place .pre to-place) ∷ Γ) E xs (Place .args to-place)
-            → (placeIn n k < 2 ^ 64 → Seq K W Γ (lands C Λ E d (vint w64 (placeIn n k)) rest p)) → Seq K W Γ (runs C Λ E (seq (call #place xs d) rest) p)
-        calls-place t fm met os next =
-            use0 W (raw (Place .pre to-place)) asks-place $
-            calls-give t fm Place met to-place usize (‵ ftrue) (usize-known (placeIn n k)) place-heard (λ u. id⊢ 𝓤 _) os (λ is. drop t $ next (is .1))
 
   module _ (κ : Lft) (q : Share) (x : RefT (List SampleToGroupEntry)) where
     abbrev pub val : Val

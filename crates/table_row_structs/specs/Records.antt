@@ -22,19 +22,15 @@ noRow = record { «sample_count» = 0; «group_description_index» = 0 }
 abbrev pub rowIn : List SampleToGroupEntry → ℕ → Answer SampleToGroupEntry
 rowIn rows k = withinRecords (length rows) (noneIf (leb (length rows) k) (given (getD rows k noRow)))
 
--- the answer where row k of n is set: the same order
+-- the answer where row k of n is set: none past the end. No row is read, so there may be more rows than a reader takes.
 abbrev pub setAnswer : ℕ → ℕ → Answer Unit
-setAnswer n k = withinRecords n (noneIf (leb n k) (given tt))
+setAnswer n k = noneIf (leb n k) (given tt)
 
 -- the rows after that answer
 abbrev pub rowsSet : Answer Unit → List SampleToGroupEntry → ℕ → SampleToGroupEntry → List SampleToGroupEntry
 rowsSet (given _) rows k row = set rows k row
 rowsSet none rows k row = rows
 rowsSet (refused n) rows k row = rows
-
--- the place where row k of n is read or set, or n where none is
-abbrev pub placeIn : ℕ → ℕ → ℕ
-placeIn n k = choose (ltb recordLimit n) n (choose (ltb k n) k n)
 
 -- the answers of the two lookups (part 5)
 abbrev pub lookupIn : List SampleToGroupEntry → ℕ → Answer ℕ

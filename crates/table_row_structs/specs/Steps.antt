@@ -23,7 +23,6 @@ toldRow (read.Refused n) = refused n
 abbrev pub toldSet : SetRow → Answer Unit
 toldSet setting.Set = given tt
 toldSet setting.Nothing = none
-toldSet (setting.Refused n) = refused n
 
 -- the answer of setting row k, and every row afterwards
 pub record GivesSet (before after : List SampleToGroupEntry) (k : ℕ) (row : SampleToGroupEntry) (r : SetRow) : Type 0 where

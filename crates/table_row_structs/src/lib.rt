@@ -5,7 +5,7 @@ ghost use lib.ListN.{length, getD};
 ghost use Rattle.base_fields.specs.Answer.{given, none};
 ghost use Rattle.table_rows.specs.Row.{withinRecords};
 ghost use Rattle.table_rows.specs.Found.{toldIndex, toldCovered};
-ghost use Rattle.table_row_structs.specs.Records.{noRow, placeIn, rowIn, setAnswer, lookupIn, totalIn, orTooMany, readCount, copyAnswer, structsOf};
+ghost use Rattle.table_row_structs.specs.Records.{noRow, rowIn, setAnswer, lookupIn, totalIn, orTooMany, readCount, copyAnswer, structsOf};
 ghost use Rattle.table_row_structs.specs.Steps.{toldRow, toldSet, GivesSet, acceptedIn, searchFrom, passed, toldWritten, GivesRows};
 use base_ids::DescriptionIndex;
 use base_ids::RECORD_LIMIT;
@@ -36,7 +36,6 @@ pub enum ReadRow {
 pub enum SetRow {
     Set,
     Nothing,
-    Refused(u32),
 }
 
 // A lookup under way: the row to look at next, the samples still to pass, and the index that was found.
@@ -59,15 +58,12 @@ fn row_in(rows: &[SampleToGroupEntry], k: usize) -> SampleToGroupEntry
     rows[k]
 }
 
-// Row k's place among n rows, or n where no row is read or set there.
-fn place_of(n: usize, k: usize) -> usize
-    ensures { λ r. ⌜ r ≡ placeIn n k ⌝ }
+// How many of n rows a call reads: all of them, or none where they are too many.
+fn rows_read(n: usize) -> usize
+    ensures { λ r. ⌜ r ≡ readCount n ⌝ }
 {
     if RECORD_LIMIT < n {
-        return n;
-    }
-    if k < n {
-        return k;
+        return 0;
     }
     n
 }
@@ -93,9 +89,9 @@ pub fn row_at(rows: &[SampleToGroupEntry], k: usize) -> ReadRow
     ensures { λ r. ⌜ toldRow r ≡ rowIn (now (rows .entry)) k ⌝ }
 {
     let n = row_count(rows);
-    let place = place_of(n, k);
-    if place < n {
-        let row = row_in(rows, place);
+    let reads = rows_read(n);
+    if k < reads {
+        let row = row_in(rows, k);
         return found_row(row);
     }
     missing_row(n)
@@ -105,35 +101,21 @@ pub fn row_at(rows: &[SampleToGroupEntry], k: usize) -> ReadRow
 fn set_told(n: usize, k: usize) -> SetRow
     ensures { λ r. ⌜ toldSet r ≡ setAnswer n k ⌝ }
 {
-    if RECORD_LIMIT < n {
-        return SetRow::Refused(55);
+    if n <= k {
+        return SetRow::Nothing;
     }
-    if k < n {
-        return SetRow::Set;
-    }
-    SetRow::Nothing
+    SetRow::Set
 }
 
-// Sets row k; the others stay. Past the end, and where the rows are too many, all stay.
+// Sets row k; the others stay. Past the end all stay. No row is read, so the rows may be more than a reader takes.
 pub fn set_row(rows: &mut [SampleToGroupEntry], k: usize, row: SampleToGroupEntry) -> SetRow
     ensures { λ r. ⌜ GivesSet (now (rows .entry)) (now (rows .exit)) k row r ⌝ }
 {
     let n = rows.len();
-    let place = place_of(n, k);
-    if place < n {
-        rows[place] = row;
+    if k < n {
+        rows[k] = row;
     }
     set_told(n, k)
-}
-
-// How many of n rows a call reads: all of them, or none where they are too many.
-fn rows_read(n: usize) -> usize
-    ensures { λ r. ⌜ r ≡ readCount n ⌝ }
-{
-    if RECORD_LIMIT < n {
-        return 0;
-    }
-    n
 }
 
 fn sum_told(n: usize, sum: u64) -> Covered

@@ -180,7 +180,6 @@ fn told_set(r: SetRow) -> u64 {
     match r {
         SetRow::Set => 0,
         SetRow::Nothing => 255,
-        SetRow::Refused(n) => n as u64,
     }
 }
 

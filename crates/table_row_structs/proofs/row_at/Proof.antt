@@ -1,4 +1,4 @@
--- A walk of the MIR of `row_at`: its place is found by value, and where it is below the count the row there is read.
+-- A walk of the MIR of `row_at`: how many rows are read is found by value, and a row below that is read.
 use Rattle.base_walk.proofs.Walking.{_≡_, refl, _∙_, ℕ, _-_, _<_, _^_, List, [], _∷_, length, URA, fullShare, named, w64, tyBool, Val, vint, SProp, ent, emp, via, fst∗, id⊢, exE, snd∗, Lft, Share, ftrue, fat, froom, fdies, Memory, Routine, Heap, Env, Calls, Loops, WpFn, Tables, Atoms, sem, Fun, fact, givenOf, tables, tablesOf, Given, Item, ‵, raw, runs, atRet, Sq, ⋆, _$_, _∵_, !, qed, by, move, drop, use0, join, fsplit, fjoin, suffices, frame, done, look, init, forget, stop, from, load, bin, and-then, no-more, assigns, first, skips, branches, land, returns, enter, alloc1, alloc0, params1, pass1, pass0, free1, free0, exec, FmC, fmOf, WpFn-mono, owns, Is, uint-makes, usize, RefT, plain, ShrSlice, slice-vals, shr-slice-tells, owned, nothing, Contract, Triple, ensured, lasts, onEntry, Meets, tripleOf, entered, cited, says, Stays, stay-none, stay-none-slice, walkOf, goes-none, goes-none-slice, Walks, ends-at, walked, walk-meets, yes, ltb→lt, nltb→le, uint-vals, uint-tells}
 use lib.ListN.{getD}
 use types.Run.{returns-within}
@@ -6,13 +6,13 @@ use denote.Struct.Laws as LL
 use denote.Enum.Laws as EL
 use Rattle.base_fields.specs.Answer.{given, none}
 use Rattle.table_rows.specs.Row.{withinRecords}
-use Rattle.table_row_structs.specs.Records.{noRow, placeIn, rowIn}
+use Rattle.table_row_structs.specs.Records.{noRow, readCount, rowIn}
 use Rattle.table_row_structs.specs.Steps.{toldRow}
 use Rattle.table_row_structs.specs.declared.SampleToGroupEntry.{SampleToGroupEntry}
 use Rattle.table_row_structs.specs.declared.ReadRow.{ReadRow}
 use Rattle.base_walk.proofs.Calls.{Heard, calls-hear}
-use Rattle.table_row_structs.proofs.Placed.{row-placed, row-missing}
-use Rattle.table_row_structs.proofs.Readers.{Entry, word, slice, Count, At, Place, val, Own, Tok, calls-count, calls-at, calls-place}
+use Rattle.table_row_structs.proofs.Placed.{read-below, row-placed, row-missing}
+use Rattle.table_row_structs.proofs.Readers.{Entry, word, slice, Count, At, Read, val, Own, Tok, calls-count, calls-at, calls-read}
 use Rattle.table_row_structs.proofs.SampleToGroupEntry as T
 use Rattle.table_row_structs.proofs.SampleToGroupEntry.Laws as T′
 use Rattle.table_row_structs.proofs.ReadRow as Rr
@@ -23,9 +23,9 @@ use Rattle.table_row_structs.proofs.row_count.Met as count-thm
 use Rattle.table_row_structs.proofs.row_in.Symbol as at-def
 use Rattle.table_row_structs.proofs.row_in.Symbol.{name as #at}
 use Rattle.table_row_structs.proofs.row_in.Met as at-thm
-use Rattle.table_row_structs.proofs.place_of.Symbol as place-def
-use Rattle.table_row_structs.proofs.place_of.Symbol.{name as #place}
-use Rattle.table_row_structs.proofs.place_of.Met as place-thm
+use Rattle.table_row_structs.proofs.rows_read.Symbol as read-def
+use Rattle.table_row_structs.proofs.rows_read.Symbol.{name as #read}
+use Rattle.table_row_structs.proofs.rows_read.Met as read-thm
 use Rattle.table_row_structs.proofs.found_row as found
 use Rattle.table_row_structs.proofs.found_row.Symbol as found-def
 use Rattle.table_row_structs.proofs.found_row.Symbol.{name as #found}
@@ -57,11 +57,11 @@ module _ {M : Type 1} (𝓤 : URA M) (H : Heap 𝓤) (A : Atoms 𝓤) (W : Given
   abbrev n : ℕ
   n = length ys
 
-  abbrev place : ℕ
-  place = placeIn n k
+  abbrev reads : ℕ
+  reads = readCount n
 
   abbrev y : SampleToGroupEntry
-  y = getD ys place noRow
+  y = getD ys k noRow
 
   abbrev v : Val
   v = val 𝓤 H A mem run κ q x
@@ -112,7 +112,7 @@ module _ {M : Type 1} (𝓤 : URA M) (H : Heap 𝓤) (A : Atoms 𝓤) (W : Given
   asks-missing : ent 𝓤 (⋆ 𝓤 H A []) (MissingRow 𝓤 H A mem run .pre to-missing)
   asks-missing = qed W [] ∵ nothing ! $ nothing ! $ owned ! usize (Is usize) (uint-makes 𝓤 H A W w64) n _ (refl, gn) $ fjoin ! $ move ! (1 ∷ 0 ∷ []) $ join ! $ frame ! $ done !
 
-  module _ (𝓣 : Tables 𝓤 H) (knows-count : Triple 𝓤 (𝓣 .C #count) (Count 𝓤 H A mem run)) (knows-at : Triple 𝓤 (𝓣 .C #at) (At 𝓤 H A mem run)) (knows-place : Triple 𝓤 (𝓣 .C #place) (Place 𝓤 H A mem run))
+  module _ (𝓣 : Tables 𝓤 H) (knows-count : Triple 𝓤 (𝓣 .C #count) (Count 𝓤 H A mem run)) (knows-at : Triple 𝓤 (𝓣 .C #at) (At 𝓤 H A mem run)) (knows-read : Triple 𝓤 (𝓣 .C #read) (Read 𝓤 H A mem run))
       (knows-found : Triple 𝓤 (𝓣 .C #found) (FoundRow 𝓤 H A mem run)) (knows-missing : Triple 𝓤 (𝓣 .C #missing) (MissingRow 𝓤 H A mem run)) where
     abbrev C : Calls 𝓤 H
     C = 𝓣 .C
@@ -127,19 +127,19 @@ module _ {M : Type 1} (𝓤 : URA M) (H : Heap 𝓤) (A : Atoms 𝓤) (W : Given
       abbrev En : Env 𝓤 H
       En = (Rr′.mir, l₀) ∷ (slice, l₁) ∷ (word, l₂) ∷ (word, l₃) ∷ (word, l₄) ∷ (T′.mir, l₅) ∷ (tyBool, l₆) ∷ []
 
-      -- from the call of `place_of` on
+      -- from the call of `rows_read` on
       begins : Sq W (own ∷ tok ∷ ‵ (froom tyBool l₆ 0) ∷ ‵ (fdies tyBool l₆) ∷ ‵ (froom T′.mir l₅ 0) ∷ ‵ (fdies T′.mir l₅) ∷ ‵ (froom word l₄ 0) ∷ ‵ (fdies word l₄)
           ∷ ‵ (fat fullShare word l₃ 0 (vint w64 n)) ∷ ‵ (fdies word l₃) ∷ ‵ (fat fullShare word l₂ 0 vk) ∷ ‵ (fdies word l₂)
           ∷ ‵ (fat fullShare slice l₁ 0 v) ∷ ‵ (fdies slice l₁) ∷ ‵ (froom Rr′.mir l₀ 0) ∷ ‵ (fdies Rr′.mir l₀) ∷ []) (runs C Λ En m.t-2 (atRet En Post))
       begins =
-          calls-place 𝓤 H A mem run n k W gn gk ! fm knows-place
-          (and-then ! (load ! (from ! (stop !)) (look ! 9 refl)) (and-then ! (load ! (from ! (stop !)) (look ! 11 refl)) (no-more !))) (λ fits. land ! (from ! (stop !)) (init ! 6 refl (tt, record { fits = fits })) $
-          assigns ! (bin ! (load ! (from ! (stop !)) (look ! 6 refl)) (load ! (from ! (stop !)) (look ! 8 refl)) tt) (from ! (stop !)) (init ! 2 refl (tt, tt)) $
+          calls-read 𝓤 H A mem run κ q x W ! fm knows-read n gn
+          (and-then ! (load ! (from ! (stop !)) (look ! 9 refl)) (no-more !)) (λ fits. land ! (from ! (stop !)) (init ! 6 refl (tt, record { fits = fits })) $
+          assigns ! (bin ! (load ! (from ! (stop !)) (look ! 10 refl)) (load ! (from ! (stop !)) (look ! 6 refl)) tt) (from ! (stop !)) (init ! 2 refl (tt, tt)) $
           first ! $ branches ! (load ! (from ! (stop !)) (look ! 2 refl))
           (λ less.
-          (let h : place < n = ltb→lt place n less in
-          calls-at 𝓤 H A mem run κ q x W ! fm knows-at place fits h
-          (and-then ! (load ! (from ! (stop !)) (look ! 12 refl)) (and-then ! (load ! (from ! (stop !)) (look ! 6 refl)) (no-more !))) (λ iy.
+          (let h : k < reads = ltb→lt k reads less in
+          calls-at 𝓤 H A mem run κ q x W ! fm knows-at k gk (read-below n k h .0)
+          (and-then ! (load ! (from ! (stop !)) (look ! 12 refl)) (and-then ! (load ! (from ! (stop !)) (look ! 10 refl)) (no-more !))) (λ iy.
           land ! (from ! (stop !)) (init ! 4 refl (LL.lawful T.the-type T′.the-laws 𝓤 H A W .typed y _ iy .0)) $
           use0 W (raw (FoundRow 𝓤 H A mem run .pre to-found)) (asks-found iy) $
           calls-hear ! fm (FoundRow 𝓤 H A mem run) knows-found to-found Rr.the-row (‵ ftrue) found-heard (λ u. id⊢ 𝓤 _) (and-then ! (load ! (from ! (stop !)) (look ! 5 refl)) (no-more !)) (λ u r e is. drop ! $
@@ -155,7 +155,7 @@ module _ {M : Type 1} (𝓤 : URA M) (H : Heap 𝓤) (A : Atoms 𝓤) (W : Given
           returns ! (look ! 14 refl) $ forget ! 2 refl $ forget ! 6 refl $ forget ! 8 refl $ forget ! 10 refl $ forget ! 12 refl $ forget ! 14 refl $
           move ! (14 ∷ 15 ∷ []) $ free1 ! $ move ! (12 ∷ 13 ∷ []) $ free1 ! $ move ! (10 ∷ 11 ∷ []) $ free1 ! $ move ! (8 ∷ 9 ∷ []) $ free1 ! $
           move ! (6 ∷ 7 ∷ []) $ free1 ! $ move ! (4 ∷ 5 ∷ []) $ free1 ! $ move ! (2 ∷ 3 ∷ []) $ free1 ! $ free0 ! $
-          by ! (exits r u (e ∙ row-missing ys k (nltb→le place n over)) is))))
+          by ! (exits r u (e ∙ row-missing ys k (nltb→le k reads over)) is))))
 
     walk : ent 𝓤 (onEntry 𝓤 H A f.signature (κ, tt) (q, tt) (x, (k, tt)) (v ∷ [], (vk ∷ [], tt))) (WpFn 𝓤 H C Λ code.function (v ∷ vk ∷ []) Post)
     walk =
@@ -168,10 +168,10 @@ module _ {M : Type 1} (𝓤 : URA M) (H : Heap 𝓤) (A : Atoms 𝓤) (W : Given
         (land ! (from ! (stop !)) (init ! 8 refl (tt, record { fits = gn })) $ begins l₀ l₁ l₂ l₃ l₄ l₅ l₆))))))))
 
 module _ {M : Type 1} (𝓤 : URA M) (H : Heap 𝓤) (A : Atoms 𝓤) (W : Given 𝓤 H A) (mem : Memory → SProp 𝓤) (run : Routine → Fun 𝓤) (𝓣 : Tables 𝓤 H) (knows-count : Triple 𝓤 (𝓣 .C #count) (Count 𝓤 H A mem run)) (knows-at : Triple 𝓤 (𝓣 .C #at) (At 𝓤 H A mem run))
-    (knows-place : Triple 𝓤 (𝓣 .C #place) (Place 𝓤 H A mem run)) (knows-found : Triple 𝓤 (𝓣 .C #found) (FoundRow 𝓤 H A mem run)) (knows-missing : Triple 𝓤 (𝓣 .C #missing) (MissingRow 𝓤 H A mem run)) where
+    (knows-read : Triple 𝓤 (𝓣 .C #read) (Read 𝓤 H A mem run)) (knows-found : Triple 𝓤 (𝓣 .C #found) (FoundRow 𝓤 H A mem run)) (knows-missing : Triple 𝓤 (𝓣 .C #missing) (MissingRow 𝓤 H A mem run)) where
   walks : Walks 𝓤 H A f.ended stayed (WpFn 𝓤 H (𝓣 .C) (𝓣 .Λ) code.function) (f.clauses 𝓤 H A mem run)
   walks = walked 𝓤 H A f.ended stayed (f.clauses 𝓤 H A mem run) (WpFn 𝓤 H (𝓣 .C) (𝓣 .Λ) code.function) (λ κs. (slice-vals, (uint-vals w64, tt))) (λ κs. (shr-slice-tells (named 0) (κs .0) Entry, (uint-tells w64, tt)))
-      (λ κs qs bounds a g are. via 𝓤 _ (fst∗ 𝓤 _ (emp 𝓤)) (walk 𝓤 H A W mem run (κs .0) (qs .0) (a .0) (a .1 .0) (are .0 .0 .1 .0) (are .1 .0 .1) 𝓣 knows-count knows-at knows-place knows-found knows-missing))
+      (λ κs qs bounds a g are. via 𝓤 _ (fst∗ 𝓤 _ (emp 𝓤)) (walk 𝓤 H A W mem run (κs .0) (qs .0) (a .0) (a .1 .0) (are .0 .0 .1 .0) (are .1 .0 .1) 𝓣 knows-count knows-at knows-read knows-found knows-missing))
 
   meets : Meets 𝓤 H A f.signature (WpFn 𝓤 H (𝓣 .C) (𝓣 .Λ) code.function) (f.spec 𝓤 H A mem run)
   meets = walk-meets 𝓤 H A f.ended stayed W (goes-none-slice 𝓤 H A W 1 (0 ∷ []) tt (plain (λ _. Entry)) yes, (goes-none 𝓤 H A W 1 (λ _. usize) yes (λ κs x f. refl), tt)) (f.clauses 𝓤 H A mem run) (WpFn 𝓤 H (𝓣 .C) (𝓣 .Λ) code.function) (WpFn-mono 𝓤 H (W .laws) 𝓣 code.function) walks
@@ -184,6 +184,6 @@ row-at-spec 𝓤 H 𝓜 𝓖 𝓡 =
     (meets 𝓤 H (𝓖 .A) (givenOf 𝓤 H 𝓜 𝓖) (𝓜 .mem) (𝓡 .run) (tablesOf 𝓤 H 𝓜 (tables 𝓤 H 𝓜 𝓡 code.env))
     (cited 𝓤 H (Count 𝓤 H (𝓖 .A) (𝓜 .mem) (𝓡 .run)) 𝓜 𝓡 code.env #count count-def.routine code.calls-table-row-structs·row-count (count-thm.met 𝓤 H 𝓜 𝓖 𝓡))
     (cited 𝓤 H (At 𝓤 H (𝓖 .A) (𝓜 .mem) (𝓡 .run)) 𝓜 𝓡 code.env #at at-def.routine code.calls-table-row-structs·row-in (at-thm.met 𝓤 H 𝓜 𝓖 𝓡))
-    (cited 𝓤 H (Place 𝓤 H (𝓖 .A) (𝓜 .mem) (𝓡 .run)) 𝓜 𝓡 code.env #place place-def.routine code.calls-table-row-structs·place-of (place-thm.met 𝓤 H 𝓜 𝓖 𝓡))
+    (cited 𝓤 H (Read 𝓤 H (𝓖 .A) (𝓜 .mem) (𝓡 .run)) 𝓜 𝓡 code.env #read read-def.routine code.calls-table-row-structs·rows-read (read-thm.met 𝓤 H 𝓜 𝓖 𝓡))
     (cited 𝓤 H (FoundRow 𝓤 H (𝓖 .A) (𝓜 .mem) (𝓡 .run)) 𝓜 𝓡 code.env #found found-def.routine code.calls-table-row-structs·found-row (found-thm.met 𝓤 H 𝓜 𝓖 𝓡))
     (cited 𝓤 H (MissingRow 𝓤 H (𝓖 .A) (𝓜 .mem) (𝓡 .run)) 𝓜 𝓡 code.env #missing missing-def.routine code.calls-table-row-structs·missing-row (missing-thm.met 𝓤 H 𝓜 𝓖 𝓡)))
