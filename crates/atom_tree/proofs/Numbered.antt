@@ -26,6 +26,10 @@ module _ (R : ℕ → Type 0) (N : Type 0) where
   followed answer.none seen follow f g = tt
   followed (refused n) seen follow f g = f
 
+-- the numbers of a walk's headers and children
+abbrev pub WalkerNumbers : (ℕ → Type 0) → Type 0
+WalkerNumbers R = R 55 × R 1 × R 2 × R 3 × R 4 × R 5 × R 6 × R 7
+
 -- none is the walker's done
 module _ (R : ℕ → Type 0) (s : List ℕ) (p : ℕ) where
   sized-by : R 5 → (size n : ℕ) → RefusesBy R Unit (sizedHeader s p (some size) n)
@@ -50,7 +54,7 @@ module _ (R : ℕ → Type 0) (s : List ℕ) (p : ℕ) where
   end-by six seven h (some size) none = tt
   end-by six seven h (some size) (some end) = by-refuseIf R Unit (ltb end (p + size)) 6 _ six tt
 
-  pub child-by : R 55 × R 1 × R 2 × R 3 × R 4 × R 5 × R 6 × R 7 → (end : Known) → RefusesBy R Unit (childAt s p end)
+  pub child-by : WalkerNumbers R → (end : Known) → RefusesBy R Unit (childAt s p end)
   unfolding childAt
   child-by r end =
       by-within R Unit s _ (r .0)

@@ -1,3 +1,5 @@
+pub mod Answered
+pub mod Buffers
 pub mod DemandThree
 pub mod Fits
 pub mod From
