@@ -1,4 +1,3 @@
-pub mod From
 pub mod DemandThree
 pub mod Writing
 pub mod Listed

@@ -7,9 +7,9 @@ use lib.Dec.{ltb}
 use lib.ListN.{length, take, drop}
 use lib.Seq.{take-append-seam}
 use borrow.Author.Tests.{lt-ltb, le-ltb}
-use Rattle.base_fields.specs.Answer.{Answer, given, none, refused, andThen, refuseIf, inFront}
+use Rattle.base_fields.specs.Answer.{Answer, given, none, refused, andThen, inFront}
 use Rattle.base_fields.proofs.Answers.{given-first, refused-first}
-use Rattle.table_rows.specs.Row.{Row, Table, flat, rowsOf, recordsIn, filled, tableRows, covered, expand}
+use Rattle.table_rows.specs.Row.{Row, Table, flat, rowsOf, covered}
 use Rattle.table_rows.specs.Pattern.{Pattern, samplesOf, coveredBy}
 use Rattle.table_rows.proofs.Rows.{rowsOf-append, flat-length}
 use Rattle.table_views.specs.Used.{usedIn, firstRefusal}
@@ -22,7 +22,8 @@ use Rattle.listing_theorem.specs.Meaning.{Meaning}
 use Rattle.listing_theorem.specs.Samples.{meaningOf, meanings}
 use Rattle.listing_theorem.specs.Listing.{listing}
 use Rattle.listing_spec.specs.Table.{entriesOf}
-use Rattle.listing_spec.specs.Cue.{Cue}
+use Rattle.listing_spec.specs.Group.{Group, groupTaken}
+use Rattle.listing_spec.specs.Cue.{Cue, cueListing}
 use Rattle.listing_meanings.proofs.Sampled.{meanings-used}
 use Rattle.listing_measure.specs.Measured.{AllMean, meaningsBy, listingOf}
 use Rattle.listing_measure.proofs.Meant.{meanings-by, all-mean}
@@ -39,6 +40,11 @@ front-none (x ∷ l) out e = absurd (omega arith)
 -- a refusal leaves lent memory as it was
 pub gives-refused : {told : Answer Cue} (n : ℕ) (numbers out : List ℕ) → told ≡ refused n → GivesCue told numbers numbers out out (cue.Refused n)
 gives-refused n numbers out e = rw e (record { answer = refl; rows = refl; output = refl })
+
+-- the listing of a body, by its group
+pub group-listed : (s : List ℕ) (t room size : ℕ) {g : Group} → groupTaken s t room ≡ given g → cueListing s t room size ≡ listedBy t (g .entries) (g .patterns) (g .rows) size
+unfolding cueListing listedBy
+group-listed s t room size e = rw e
 
 module _ (t : ℕ) (entries : List (List ℕ)) (ts : List ℕ) (tb : SampleTable) (whole : WholeIn ts tb (allIn tb)) where
   abbrev pub patterns : List Pattern

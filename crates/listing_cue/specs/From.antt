@@ -1,15 +1,13 @@
--- The listing from the payloads of the table and of the sgpd: what follows the walk in document 01, part 8.
+-- The listing from a group: what follows its opening in document 01, part 8.
 use Prim.Native.Nat.{ℕ}
 use mathlib.Core.Path.{_≡_}
 use mathlib.Core.List.{List}
 use lib.Dec.{ltb}
 use lib.ListN.{length}
 use Rattle.base_fields.specs.Answer.{Answer, given, refuseIf, andThen}
-use Rattle.table_front.specs.declared.TableKind.{TableKind}
 use Rattle.table_rows.specs.Row.{Row, Table, recordsIn}
 use Rattle.table_rows.specs.Pattern.{Pattern, samplesOf}
-use Rattle.table_records.specs.Lent.{parsedAs, tableFrom}
-use Rattle.table_runs.specs.Patterns.{patternsOf}
+use Rattle.table_records.specs.Lent.{tableFrom}
 use Rattle.table_runs.specs.Ahead.{allIn, aheadIn}
 use Rattle.table_runs.specs.declared.SampleTable.{SampleTable}
 use Rattle.listing_theorem.specs.Samples.{meanings}
@@ -19,18 +17,11 @@ use Rattle.listing_spec.specs.Cue.{Cue}
 use Rattle.listing_cue.specs.Told.{GivesCue}
 use Rattle.listing_cue.specs.declared.CueListing.{CueListing}
 
--- once the entries and the patterns are read: the decoders in sample order, and last 54
+-- the decoders in sample order, and last 54. (The law `group-listed` of proofs/Listed.antt: of the group that was opened, this is the listing of the body)
 unfoldable pub listedBy : ℕ → List (List ℕ) → List Pattern → List Row → ℕ → Answer Cue
 listedBy t entries patterns rows size =
     andThen (meanings t entries (samplesOf patterns)) (λ ms.
     refuseIf (ltb size (length (listing t ms))) 54 (given (record { bytes = listing t ms; rows = rows })))
-
--- the law `cue-from` of proofs/From.antt: behind the walk, this is the listing of the body
-unfoldable pub cueFrom : TableKind → List ℕ → List ℕ → ℕ → ℕ → ℕ → Answer Cue
-cueFrom kind table sgpd t room size =
-    andThen (parsedAs kind table room) (λ x.
-    andThen (entriesOf sgpd) (λ entries.
-    andThen (patternsOf kind table) (λ patterns. listedBy t entries patterns (x .rows) size)))
 
 -- a call whose table and entries are read, and whose rows find records enough
 pub record GivesListed (tables : List ℕ) (t : SampleTable) (s : List ℕ) (type : ℕ) (numbers numbers' out out' : List ℕ) (r : CueListing) : Type 0 where

@@ -3,24 +3,18 @@ mod write;
 
 use base_fields::bytes_at;
 use base_ids::RowNumber;
-use group_sgpd::ReadHead;
 use group_sgpd::SgpdHead;
 use group_sgpd::entry_marks;
-use group_sgpd::read_sgpd;
+use listing_group::OpenGroup;
+use listing_group::Records;
+use listing_group::open_group;
 use listing_meanings::Checked;
 use listing_meanings::check_used;
 use listing_measure::MeasuredListing;
 use listing_measure::measure_listing;
-use listing_walk::FoundSources;
-use listing_walk::find_sources;
-use table_csgp::measure::Measured;
-use table_front::TableKind;
-use table_records::count_rows;
 use table_records::write_rows;
-use table_runs::ReadTable;
 use table_runs::SampleTable;
 use table_runs::count_samples;
-use table_runs::read_table;
 use write::write_listing;
 ghost use mathlib.Core.Path.{_≡_};
 ghost use lib.ListN.{length};
@@ -31,7 +25,7 @@ ghost use Rattle.table_runs.specs.Ahead.{allIn, WholeIn, LaidIn};
 ghost use Rattle.table_records.specs.Lent.{tableFrom};
 ghost use Rattle.listing_spec.specs.Cue.{cueCall};
 ghost use Rattle.listing_cue.specs.Told.{GivesCue};
-ghost use Rattle.listing_cue.specs.From.{cueFrom, GivesListed};
+ghost use Rattle.listing_cue.specs.From.{GivesListed};
 
 // What an accepted call gives: the listing's length and the row count.
 pub struct CueLengths {
@@ -88,32 +82,6 @@ fn list_samples(
     })
 }
 
-// What follows the walk: the payloads of the table and of the sgpd.
-fn list_payloads(
-    kind: TableKind,
-    table_s: &[u8],
-    s: &[u8],
-    grouping_type: u32,
-    rows: &mut [RowNumber],
-    out: &mut [u8],
-) -> CueListing
-    ensures { λ r. ⌜ GivesCue (cueFrom kind (now («table_s» .entry)) (now (s .entry)) «grouping_type» (recordsIn (now (rows .entry))) (length (now (out .entry)))) (now (rows .entry)) (now (rows .exit)) (now (out .entry)) (now (out .exit)) r ⌝ }
-{
-    let table = match read_table(table_s, kind) {
-        ReadTable::Table(t) => t,
-        ReadTable::Refused(n) => return CueListing::Refused(n),
-    };
-    let count = match count_rows(table_s, table, rows.len() / 2) {
-        Measured::Rows(n) => n,
-        Measured::Refused(n) => return CueListing::Refused(n),
-    };
-    let head = match read_sgpd(s) {
-        ReadHead::Head(h) => h,
-        ReadHead::Refused(n) => return CueListing::Refused(n),
-    };
-    list_samples(table_s, table, count, s, head, grouping_type, rows, out)
-}
-
 // Writes the table's rows in front of the lent run and the listing in front of the output. Nothing is written on refusal.
 pub fn cue_listing(
     body: &[u8],
@@ -123,12 +91,15 @@ pub fn cue_listing(
 ) -> CueListing
     ensures { λ r. ⌜ GivesCue (cueCall (now (body .entry)) «grouping_type» (now (rows .entry)) (now (out .entry))) (now (rows .entry)) (now (rows .exit)) (now (out .entry)) (now (out .exit)) r ⌝ }
 {
-    let found = match find_sources(body, grouping_type) {
-        FoundSources::Sources(f) => f,
-        FoundSources::Refused(n) => return CueListing::Refused(n),
+    let lent = rows.len() / 2;
+    let group = match open_group(body, grouping_type, Records::Lent(lent)) {
+        OpenGroup::Group(g) => g,
+        OpenGroup::Refused(n) => return CueListing::Refused(n),
     };
-    let kind = found.kind;
-    let table = bytes_at(body, found.table_place, found.table_size);
-    let sgpd = bytes_at(body, found.sgpd_place, found.sgpd_size);
-    list_payloads(kind, table, sgpd, grouping_type, rows, out)
+    let table = group.table;
+    let head = group.head;
+    let table_s = bytes_at(body, group.table_place, group.table_size);
+    let s = bytes_at(body, group.sgpd_place, group.sgpd_size);
+    let count = group.count as usize;
+    list_samples(table_s, table, count, s, head, grouping_type, rows, out)
 }

@@ -3,7 +3,7 @@ use mathlib.Core.Path.{_≡_, refl, sym, _∙_}
 use Prim.Native.Nat.{ℕ, _+_, _*_, _<_, _≤_}
 use native.Mathlib.Decide.{decLt}
 use native.Mathlib.Omega.{arith}
-use mathlib.Core.List.{List, [], _++_, reverse, map}
+use mathlib.Core.List.{List, [], _++_, reverse}
 use lib.Dec.{ltb}
 use lib.ListN.{length, drop, length-reverse}
 use lib.Seq.{ext-getD}
@@ -11,10 +11,8 @@ use borrow.Author.Tests.{lt-ltb, le-ltb, ltb-false}
 use Rattle.base_fields.specs.Answer.{Answer, given, none, refused, andThen}
 use Rattle.base_fields.proofs.Answers.{given-inj, given-first, given-past, refused-given}
 use Rattle.table_rows.specs.Row.{Row, Table, filled, tableRows, flat, covered, indexAt, expand}
-use Rattle.table_rows.specs.Pattern.{Pattern, single, samplesOf, coveredBy, indexOf}
+use Rattle.table_rows.specs.Pattern.{Pattern, samplesOf, coveredBy, indexOf}
 use Rattle.table_rows.proofs.Samples.{covered-expand, indexAt-expand, coveredBy-samples, indexOf-samples}
-use Rattle.table_front.specs.declared.TableKind.{TableKind}
-use Rattle.table_front.specs.declared.TableKind.the-variants.{Sbgp, Csgp}
 use Rattle.table_sbgp.specs.Sbgp.{readRows, sbgp, entered, parseSbgp}
 use Rattle.table_sbgp.proofs.Lookup.{sbgp-index, sbgp-covered}
 use Rattle.table_sbgp.specs.Head.{SbgpLaid}
@@ -27,11 +25,10 @@ use Rattle.table_csgp.specs.Rows.{rowsFor}
 use Rattle.table_csgp.specs.Table.{parseCsgp, csgpTable}
 use Rattle.table_csgp.proofs.Parse.{parse-rows}
 use Rattle.table_csgp.proofs.Lookup.{csgp-index, csgp-covered}
-use Rattle.table_runs.specs.Patterns.{patternsOf}
-use Rattle.table_runs.specs.Ahead.{allIn, aheadIn, LaidIn, OfKind}
+use Rattle.table_runs.specs.Ahead.{allIn, aheadIn, LaidIn}
 use Rattle.table_runs.specs.declared.SampleTable.{SampleTable}
 use Rattle.table_runs.specs.declared.SampleTable.the-variants as table
-use Rattle.table_records.specs.Lent.{parsedAs, tableFrom}
+use Rattle.table_records.specs.Lent.{tableFrom}
 
 abbrev pub counted : Answer Table → Answer ℕ
 counted a = andThen a (λ t. given (length (t .rows)))
@@ -103,20 +100,3 @@ lent-fits s (table.Patterns h) room e =
     let first = given-first (csgp s) _ e in
     let rows = given-first (replay room [] (samplesOf (first .0))) _ (first .2) in
     rw (← given-inj (rows .2), length-reverse) (replay-room room [] (samplesOf (first .0)) (rows .1) (omega arith))
-
--- by the kind that was read
-pub parsed-from : (of : TableKind) (s : List ℕ) (t : SampleTable) (room : ℕ) → OfKind of t → parsedAs of s room ≡ tableFrom s t room
-parsed-from Sbgp s (table.Rows h) room k = refl
-parsed-from Sbgp s (table.Patterns h) room k = absurd k
-parsed-from Csgp s (table.Rows h) room k = absurd k
-parsed-from Csgp s (table.Patterns h) room k = refl
-
--- a structure that is refused is refused with any records
-pub refused-parsed : (of : TableKind) (s : List ℕ) (room : ℕ) {n : ℕ} → patternsOf of s ≡ refused n → parsedAs of s room ≡ refused n
-refused-parsed Sbgp s room {n} e = by (sbgp s) e
-  where
-    by : (a : Answer Table) → andThen a (λ t. given (map single (t .rows))) ≡ refused n → andThen a (entered room) ≡ refused n
-    by (given t) f = absurd (refused-given (sym f))
-    by none f = let z : _≡_ {A = ℕ} 0 1 = cc in absurd (omega arith)
-    by (refused m) f = let z : m ≡ n = cc in rw z
-refused-parsed Csgp s room e = rw e refl

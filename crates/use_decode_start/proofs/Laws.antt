@@ -15,11 +15,8 @@ use Rattle.base_fields.proofs.Numbered.{by-refuseIf, by-andThen}
 use Rattle.base_fields.proofs.Firm.{Other, Firm, firm-never-29}
 use Rattle.table_rows.specs.Pattern.{samplesOf, coveredBy}
 use Rattle.table_rows.proofs.Samples.{coveredBy-samples}
-use Rattle.table_sbgp.specs.Sbgp.{sbgp}
-use Rattle.table_sbgp.proofs.Numbered.{sbgp-firm}
 use Rattle.table_sbgp.proofs.Rooms.{sbgp-roomy}
 use Rattle.table_csgp.proofs.Rooms.{csgp-roomy}
-use Rattle.table_csgp_head.proofs.Numbered.{csgp-firm}
 use Rattle.table_needed.specs.Needed.{unlimited}
 use Rattle.table_needed.proofs.Covered.{sbgp-few, csgp-few}
 use Rattle.table_views.specs.Used.{firstRefusal}
@@ -27,18 +24,19 @@ use Rattle.table_views.specs.Greatest.{Greatest}
 use Rattle.table_views.proofs.Greatest.{greatest-one}
 use Rattle.listing_theorem.specs.Meaning.{Meaning}
 use Rattle.listing_theorem.specs.Samples.{meaningOf, meanings}
-use Rattle.listing_spec.specs.Walk.{TakenTable, sbgpAt, csgpAt, sources}
-use Rattle.listing_spec.specs.Table.{patternsTaken, tableTaken, entriesTaken}
-use Rattle.listing_spec.proofs.FirmWalk.{sources-firm}
-use Rattle.listing_spec.proofs.FirmParts.{entries-firm, meanings-firm}
-use Rattle.use_decode_start.specs.Start.{Searched, searchedTo, BeginsIn, Starts, GivesStart}
+use Rattle.listing_spec.specs.Walk.{TakenTable, sbgpAt, csgpAt}
+use Rattle.listing_spec.specs.Group.{Group, groupTaken}
+use Rattle.listing_spec.proofs.Taken.{parsedTaken}
+use Rattle.listing_spec.proofs.FirmParts.{meanings-firm}
+use Rattle.listing_spec.proofs.FirmGroup.{group-firm}
+use Rattle.use_decode_start.specs.Start.{searchedTo, BeginsIn, Starts, GivesStart}
 
 -- two answers of one call are the same
 module _ (s : List ℕ) (t wanted : ℕ) where
   starts-one : {o p : Option ℕ} → Starts s t wanted o → Starts s t wanted p → o ≡ p
   starts-one {o} {p} f g =
-      let same : g .searched ≡ f .searched = given-inj (sym (g .told) ∙ f .told) in
-      greatest-one (BeginsIn t wanted (f .searched)) o p (f .greatest) (subst (λ (x : Searched). Greatest (BeginsIn t wanted x) p) same (g .greatest))
+      let same : g .group ≡ f .group = given-inj (sym (g .told) ∙ f .told) in
+      greatest-one (BeginsIn t wanted (f .group)) o p (f .greatest) (subst (λ (x : Group). Greatest (BeginsIn t wanted x) p) same (g .greatest))
 
   starts-given : {n : ℕ} {o : Option ℕ} → Starts s t wanted o → searchedTo s t wanted ≡ refused n → ⊥
   starts-given f e = refused-given (sym e ∙ f .told)
@@ -52,18 +50,12 @@ module _ (s : List ℕ) (t wanted : ℕ) where
   one-answer answers.none (refused n) f g = absurd (starts-given f g)
   one-answer (refused m) (given b) f g = absurd (starts-given g f)
   one-answer (refused m) answers.none f g = absurd (starts-given g f)
-  one-answer (refused m) (refused n) f g = let e : _≡_ {A = Answer Searched} (refused m) (refused n) = sym f ∙ g in let z : m ≡ n = cc in ap {B = Answer ℕ} refused z
+  one-answer (refused m) (refused n) f g = let e : _≡_ {A = Answer Group} (refused m) (refused n) = sym f ∙ g in let z : m ≡ n = cc in ap {B = Answer ℕ} refused z
 
 -- the table's reader finds records enough
-table-firm : (s : List ℕ) (k : TakenTable) → Firm (tableTaken s unlimited k)
-unfolding tableTaken
-table-firm s (sbgpAt b) = let p = bytesAt s b in sbgp-roomy p unlimited (λ t e. omega (arith, sbgp-few p t e))
-table-firm s (csgpAt b) = let p = bytesAt s b in csgp-roomy p unlimited (λ ps e. omega (arith, csgp-few p ps e, coveredBy-samples ps))
-
-patterns-firm : (s : List ℕ) (k : TakenTable) → Firm (patternsTaken s k)
-unfolding patternsTaken
-patterns-firm s (sbgpAt b) = by-andThen Other ⊥ (sbgp (bytesAt s b)) _ (sbgp-firm (bytesAt s b)) (λ t e. tt)
-patterns-firm s (csgpAt b) = csgp-firm (bytesAt s b)
+parsed-firm : (s : List ℕ) (k : TakenTable) → Firm (parsedTaken s unlimited k)
+parsed-firm s (sbgpAt b) = let p = bytesAt s b in sbgp-roomy p unlimited (λ t e. omega (arith, sbgp-few p t e))
+parsed-firm s (csgpAt b) = let p = bytesAt s b in csgp-roomy p unlimited (λ ps e. omega (arith, csgp-few p ps e, coveredBy-samples ps))
 
 -- no decoder's refusal is 29
 module _ (t : ℕ) (entries : List (List ℕ)) where
@@ -84,12 +76,10 @@ module _ (t : ℕ) (entries : List (List ℕ)) where
 pub searched-firm : (s : List ℕ) (t wanted : ℕ) → Firm (searchedTo s t wanted)
 unfolding searchedTo
 searched-firm s t wanted =
-    by-andThen Other ⊥ (sources s t) _ (sources-firm s t) (λ f e.
-    by-andThen Other ⊥ (tableTaken s unlimited (f .table)) _ (table-firm s (f .table)) (λ x g.
-    by-andThen Other ⊥ (entriesTaken s (f .sgpd)) _ (entries-firm s (f .sgpd)) (λ entries h.
-    by-andThen Other ⊥ (patternsTaken s (f .table)) _ (patterns-firm s (f .table)) (λ ps i.
-    by-refuseIf Other ⊥ (leb (coveredBy ps) wanted) 62 _ (search needs)
-    (by-andThen Other ⊥ (firstRefusal (meaningOf t entries) (take (suc wanted) (samplesOf ps))) _ (refusal-firm t entries (take (suc wanted) (samplesOf ps))) (λ u j. tt))))))
+    by-andThen Other ⊥ (groupTaken s t unlimited) _ (group-firm s t unlimited (λ taken e. parsed-firm s (taken .table))) (λ g e.
+    let upTo = take (suc wanted) (samplesOf (g .patterns)) in
+    by-refuseIf Other ⊥ (leb (coveredBy (g .patterns)) wanted) 62 _ (search needs)
+    (by-andThen Other ⊥ (firstRefusal (meaningOf t (g .entries)) upTo) _ (refusal-firm t (g .entries) upTo) (λ u j. tt)))
 
 pub never-29 : (s : List ℕ) (t wanted : ℕ) → GivesStart s t wanted (refused 29) → ⊥
 never-29 s t wanted e = firm-never-29 (searchedTo s t wanted) (searched-firm s t wanted) e

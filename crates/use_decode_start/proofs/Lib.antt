@@ -2,6 +2,5 @@ pub mod Entries
 pub mod Turns
 pub mod Bests
 pub mod Searching
-pub mod Counts
 pub mod From
 pub mod Laws

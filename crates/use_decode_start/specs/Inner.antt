@@ -15,8 +15,6 @@ use Rattle.use_decode_start.specs.declared.Distance.{Distance}
 use Rattle.use_decode_start.specs.declared.Distance.the-variants as distance
 use Rattle.use_decode_start.specs.declared.Decoded.{Decoded}
 use Rattle.use_decode_start.specs.declared.Decoded.the-variants as decoded
-use Rattle.use_decode_start.specs.declared.CheckedCounts.{CheckedCounts}
-use Rattle.use_decode_start.specs.declared.CheckedCounts.the-variants as counts
 use Rattle.use_decode_start.specs.declared.SearchedFor.{SearchedFor}
 use Rattle.use_decode_start.specs.declared.SearchedFor.the-variants as search
 
@@ -37,10 +35,6 @@ toldLatest (suc k) = some k
 abbrev pub toldSearch : SearchedFor → Answer (Option ℕ)
 toldSearch (search.Latest b) = given (toldLatest b)
 toldSearch (search.Refused n) = refused n
-
-abbrev pub toldCounts : CheckedCounts → Answer Unit
-toldCounts counts.Fit = given tt
-toldCounts (counts.Refused n) = refused n
 
 -- frames are below this
 abbrev pub frameLimit : ℕ

@@ -8,7 +8,7 @@ use lib.IntN.{ℤ, pos}
 use lib.ListN.{take}
 use Rattle.base_fields.specs.Answer as answer
 use Rattle.base_fields.specs.Answer.{Answer, given, refused, refuseIf, andThen}
-use Rattle.table_rows.specs.Pattern.{Pattern, samplesOf, coveredBy}
+use Rattle.table_rows.specs.Pattern.{samplesOf, coveredBy}
 use Rattle.table_needed.specs.Needed.{unlimited}
 use Rattle.table_views.specs.Greatest.{Greatest}
 use Rattle.table_views.specs.Search.{Begins}
@@ -16,8 +16,7 @@ use Rattle.table_views.specs.Used.{firstRefusal}
 use Rattle.group_entries.specs.Decoded.{Decoded, rollOf, rapOf, teleOf, sapOf, rashOf, alstOf, rawOf}
 use Rattle.listing_theorem.specs.Meaning.{Meaning, outside, missing, value}
 use Rattle.listing_theorem.specs.Samples.{meaningOf}
-use Rattle.listing_spec.specs.Walk.{sources}
-use Rattle.listing_spec.specs.Table.{patternsTaken, tableTaken, entriesTaken}
+use Rattle.listing_spec.specs.Group.{Group, groupTaken}
 
 -- the distance of a value: a roll has its own; of a random access point begin and clean are the sample itself
 abbrev pub distanceOfValue : Decoded → Option ℤ
@@ -44,32 +43,23 @@ distanceTold (refused n) = none
 unfoldable pub distanceOf : ℕ → List (List ℕ) → ℕ → Option ℤ
 distanceOf t entries i = distanceTold (meaningOf t entries i)
 
--- what is searched: the table's patterns and the entries
-pub record Searched : Type 0 where
-  pub patterns : List Pattern
-  pub entries : List (List ℕ)
-
--- in order: the numbers of the walk, 50, 52; the table's, where records never run out, so that 29 cannot arise; the sgpd's; 62 where the wanted frame is not
--- covered; the decoders' own in sample order, for each entry that a sample up to the wanted frame uses
-unfoldable pub searchedTo : List ℕ → ℕ → ℕ → Answer Searched
+-- in order: the group's numbers, where records never run out, so that 29 cannot arise; 62 where the wanted frame is not covered; the decoders' own in sample
+-- order, for each entry that a sample up to the wanted frame uses
+unfoldable pub searchedTo : List ℕ → ℕ → ℕ → Answer Group
 searchedTo s t wanted =
-    andThen (sources s t) (λ taken.
-    andThen (tableTaken s unlimited (taken .table)) (λ table.
-    andThen (entriesTaken s (taken .sgpd)) (λ entries.
-    andThen (patternsTaken s (taken .table)) (λ patterns.
-    refuseIf (leb (coveredBy patterns) wanted) 62
-    (andThen (firstRefusal (meaningOf t entries) (take (suc wanted) (samplesOf patterns))) (λ u.
-    given (record { patterns = patterns; entries = entries })))))))
+    andThen (groupTaken s t unlimited) (λ group.
+    refuseIf (leb (coveredBy (group .patterns)) wanted) 62
+    (andThen (firstRefusal (meaningOf t (group .entries)) (take (suc wanted) (samplesOf (group .patterns)))) (λ u. given group)))
 
 -- b is the begin of a member, among all samples of the film, that is clean at or before the wanted frame
-abbrev pub BeginsIn : ℕ → ℕ → Searched → ℕ → Type 0
-BeginsIn t wanted x b = Begins (distanceOf t (x .entries)) wanted (samplesOf (x .patterns)) b
+abbrev pub BeginsIn : ℕ → ℕ → Group → ℕ → Type 0
+BeginsIn t wanted group b = Begins (distanceOf t (group .entries)) wanted (samplesOf (group .patterns)) b
 
 -- an accepted answer: the greatest such begin, or none, where there is no such begin at all
 pub record Starts (s : List ℕ) (t wanted : ℕ) (found : Option ℕ) : Type 0 where
-  pub searched : Searched
-  pub told : searchedTo s t wanted ≡ given searched
-  pub greatest : Greatest (BeginsIn t wanted searched) found
+  pub group : Group
+  pub told : searchedTo s t wanted ≡ given group
+  pub greatest : Greatest (BeginsIn t wanted group) found
 
 -- what a call answers
 abbrev pub GivesStart : List ℕ → ℕ → ℕ → Answer ℕ → Type 0

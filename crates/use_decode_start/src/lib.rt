@@ -4,34 +4,23 @@ mod positions;
 mod search;
 
 ghost use mathlib.Core.Path.{_≡_};
-ghost use Rattle.base_fields.specs.Answer.{given, andThen};
 ghost use Rattle.base_fields.specs.Fourcc as fourcc_of;
+ghost use Rattle.group_sgpd.specs.Head.{ReadWhole};
 ghost use Rattle.table_rows.specs.Pattern.{coveredBy};
-ghost use Rattle.table_records.specs.Lent.{tableFrom};
-ghost use Rattle.table_runs.specs.Ahead.{allIn, aheadIn, LaidIn};
-ghost use Rattle.table_needed.specs.Needed.{unlimited};
+ghost use Rattle.table_runs.specs.Ahead.{allIn, aheadIn, WholeIn};
 ghost use Rattle.use_decode_start.specs.Start.{GivesStart};
 ghost use Rattle.use_decode_start.specs.Told.{toldStart};
-ghost use Rattle.use_decode_start.specs.From.{searchedFrom, GivesBy};
-ghost use Rattle.use_decode_start.specs.Inner.{toldCounts};
+ghost use Rattle.use_decode_start.specs.From.{GivesIn};
 use base_fields::bytes_at;
 use base_fields::fourcc;
-use base_ids::COUNT_LIMIT;
 use base_ids::SampleNumber;
-use group_sgpd::ReadHead;
+use group_sgpd::SgpdHead;
 use group_sgpd::entry_marks;
-use group_sgpd::read_sgpd;
-use listing_walk::FoundSources;
-use listing_walk::find_sources;
+use listing_group::OpenGroup;
+use listing_group::Records;
+use listing_group::open_group;
 use search::search_table;
-use table_csgp::measure::Measured;
-use table_front::TableKind;
-use table_needed::UNLIMITED;
-use table_records::count_rows;
-use table_runs::ReadTable;
 use table_runs::SampleTable;
-use table_runs::count_samples;
-use table_runs::read_table;
 
 pub enum DecodeStart {
     Sample(SampleNumber),
@@ -54,55 +43,25 @@ enum Decoded {
     Refused(u32),
 }
 
-// Whether a table's rows can be made.
-enum CheckedCounts {
-    Fit,
-    Refused(u32),
-}
-
 // The greatest begin so far, as how many samples there are up to it (0: there is none), or a decoder's refusal.
 enum SearchedFor {
     Latest(u64),
     Refused(u32),
 }
 
-// 28, where the count of a row would pass its limit. In a table that covers no more samples than that limit none does, and its rows need not be
-// counted.
-fn check_counts(table_s: &[u8], table: SampleTable, covered: u64) -> CheckedCounts
-    requires { ⌜ (LaidIn (now «table_s») table) × (covered ≡ coveredBy (aheadIn (now «table_s») table (allIn table))) ⌝ }
-    ensures { λ r. ⌜ toldCounts r ≡ andThen (tableFrom (now («table_s» .entry)) table unlimited) (λ x. given tt) ⌝ }
-{
-    if covered <= COUNT_LIMIT as u64 {
-        return CheckedCounts::Fit;
-    }
-    match count_rows(table_s, table, UNLIMITED) {
-        Measured::Rows(_) => CheckedCounts::Fit,
-        Measured::Refused(n) => CheckedCounts::Refused(n),
-    }
-}
-
-// What follows the walk: the payloads of the table and of the sgpd.
+// In a group whose table covers so many samples: 62, the decoders' refusals, and the search.
 fn start_in(
-    kind: TableKind,
     table_s: &[u8],
+    table: SampleTable,
+    covered: u64,
     s: &[u8],
+    head: SgpdHead,
     grouping_type: u32,
     frame: SampleNumber,
 ) -> DecodeStart
-    ensures { λ r. ⌜ GivesBy (searchedFrom kind (now («table_s» .entry)) (now (s .entry)) «grouping_type» (frame .0)) «grouping_type» (frame .0) (toldStart r) ⌝ }
+    requires { ⌜ (WholeIn (now «table_s») table (allIn table)) × (covered ≡ coveredBy (aheadIn (now «table_s») table (allIn table))) × (ReadWhole (now s) head) ⌝ }
+    ensures { λ r. ⌜ GivesIn (now («table_s» .entry)) table (now (s .entry)) «grouping_type» (frame .0) (toldStart r) ⌝ }
 {
-    let table = match read_table(table_s, kind) {
-        ReadTable::Table(t) => t,
-        ReadTable::Refused(n) => return DecodeStart::Refused(n),
-    };
-    let covered = count_samples(table_s, table);
-    if let CheckedCounts::Refused(n) = check_counts(table_s, table, covered) {
-        return DecodeStart::Refused(n);
-    }
-    let head = match read_sgpd(s) {
-        ReadHead::Head(h) => h,
-        ReadHead::Refused(n) => return DecodeStart::Refused(n),
-    };
     let wanted = frame.0 as u64;
     if covered <= wanted {
         return DecodeStart::Refused(62);
@@ -122,14 +81,15 @@ fn start_in(
 fn decode_start(body: &[u8], grouping_type: u32, frame: SampleNumber) -> DecodeStart
     ensures { λ r. ⌜ GivesStart (now (body .entry)) «grouping_type» (frame .0) (toldStart r) ⌝ }
 {
-    let found = match find_sources(body, grouping_type) {
-        FoundSources::Sources(f) => f,
-        FoundSources::Refused(n) => return DecodeStart::Refused(n),
+    let group = match open_group(body, grouping_type, Records::Enough) {
+        OpenGroup::Group(g) => g,
+        OpenGroup::Refused(n) => return DecodeStart::Refused(n),
     };
-    let kind = found.kind;
-    let table = bytes_at(body, found.table_place, found.table_size);
-    let sgpd = bytes_at(body, found.sgpd_place, found.sgpd_size);
-    start_in(kind, table, sgpd, grouping_type, frame)
+    let table = group.table;
+    let head = group.head;
+    let table_s = bytes_at(body, group.table_place, group.table_size);
+    let s = bytes_at(body, group.sgpd_place, group.sgpd_size);
+    start_in(table_s, table, group.count, s, head, grouping_type, frame)
 }
 
 // By the roll group: a member with distance d of 0 or more begins at its sample and is clean d samples later; one with a negative distance

@@ -1,32 +1,47 @@
--- The walk's refusals; else the payloads that it found stand in the body, and the listing is that of `list_payloads`.
-use mathlib.Core.Path.{_≡_}
+-- The group's refusals; else the payloads where it was read stand in the body, and the listing is that of `list_samples`.
+use mathlib.Core.Path.{ap, sym, _∙_}
+use mathlib.Core.List.{List}
+use Prim.Native.Nat.{ℕ}
+use lib.ListN.{length}
 use borrow.Author.Needs.{needs}
-use Rattle.base_fields.specs.Answer.{given}
-use Rattle.listing_spec.specs.Walk.{sources}
-use Rattle.listing_walk.specs.Told.{sourcesOf}
-use Rattle.listing_walk.specs.declared.SourcesAt.{SourcesAt}
-use Rattle.listing_walk.proofs.Stand.{table-stands, sgpd-stands}
-use Rattle.listing_cue.proofs.From.{walk-refused, walk-found}
-use Rattle.listing_cue.proofs.Listed.{gives-refused}
+use Rattle.table_rows.specs.Row.{recordsIn}
+use Rattle.listing_spec.specs.Group.{Group}
+use Rattle.listing_spec.proofs.Refused.{refused-group}
+use Rattle.listing_group.specs.Opened.{Opened}
+use Rattle.listing_group.specs.declared.GroupAt.{GroupAt}
+use Rattle.listing_group.specs.declared.Records.the-variants as records
+use Rattle.listing_cue.proofs.Listed.{gives-refused, group-listed}
 use Rattle.listing_cue.proofs.cue_listing.Statement.{statement}
 use Rattle.listing_cue.proofs.cue_listing.Tie as tie
 
--- where the parts are found
-module _ (c : tie.After-f) where
+-- the group is opened
+module _ (c : tie.After-g) where
   abbrev start : tie.Start
   start = c .before .before .before .before .before .before
 
-  abbrev at : SourcesAt
-  at = c .f .given .0 .0
+  abbrev s : List ℕ
+  s = start .args .body .now
 
-  found : given (sourcesOf at) ≡ sources (start .args .body .now) (start .args .grouping-type)
-  found = rw (c .f .given .1) at (c .before .before .find-sources .ensures)
+  abbrev t : ℕ
+  t = start .args .grouping-type
 
-find-sources-requires : tie.Need-find-sources-requires
-find-sources-requires c κs = search needs
+  abbrev room : ℕ
+  room = recordsIn (start .args .rows .now)
 
-enum-known-f : tie.Need-enum-known-f
-enum-known-f c = search needs
+  abbrev at : GroupAt
+  at = c .g .given .0 .0
+
+  opened : Opened s t (records.Lent room) at
+  opened = rw (c .g .given .1) at (c .before .before .open-group .ensures)
+
+  abbrev group : Group
+  group = opened .group
+
+open-group-requires : tie.Need-open-group-requires
+open-group-requires c κs = search needs
+
+enum-known-g : tie.Need-enum-known-g
+enum-known-g c = search needs
 
 enum-known-n : tie.Need-enum-known-n
 enum-known-n c = search needs
@@ -34,20 +49,20 @@ enum-known-n c = search needs
 returns : tie.Need-returns
 returns c =
     let a = c .before .before .before .before .before .before .before .args in
-    gives-refused _ _ _ (walk-refused (a .body .now) (a .grouping-type) _ _ (rw (c .before .n .given .1) at (c .before .before .before .find-sources .ensures)))
+    gives-refused _ _ _ (refused-group (a .body .now) (a .grouping-type) _ _ (rw (c .before .n .given .1) at (c .before .before .before .open-group .ensures)))
 
 bytes-at-requires : tie.Need-bytes-at-requires
-bytes-at-requires c κs =
-    let f = c .before in
-    table-stands (start f .args .body .now) (start f .args .grouping-type) (at f) (found f) .inside
+bytes-at-requires c κs = opened (c .before .before) .table
 
 bytes-at-requires-2 : tie.Need-bytes-at-requires-2
-bytes-at-requires-2 c κs =
-    let f = c .before .before in
-    sgpd-stands (start f .args .body .now) (start f .args .grouping-type) (at f) (found f) .inside
+bytes-at-requires-2 c κs = opened (c .before .before .before) .sgpd
 
-list-payloads-requires : tie.Need-list-payloads-requires
-list-payloads-requires c κs = search needs
+list-samples-requires : tie.Need-list-samples-requires
+list-samples-requires c κs =
+    let o = opened (c .before .before .before .before .before .before) in
+    let made = o .holds .made in
+    rw (c .before .before .before .bytes-at .ensures .bytes, c .before .before .bytes-at2 .ensures .bytes)
+    ((o .holds .whole, o .holds .laid, o .holds .read), (made .0, made .1, ap length (made .2) ∙ sym (o .count)))
 
 same-length : tie.Need-same-length
 same-length c = search needs
@@ -58,22 +73,24 @@ same-length-2 c = search needs
 returns-2 : tie.Need-returns-2
 returns-2 c =
     let called = c .before .before .before .before in
-    let f = called .before .before .before .before .before .before in
-    let a = start f .args in
-    let listed = rw (called .before .before .before .before .bytes-at .ensures .bytes, called .before .before .before .bytes-at2 .ensures .bytes) at (called .list-payloads .ensures) in
-    rw (walk-found (a .body .now) (a .grouping-type) _ _ (at f) (found f)) listed
+    let g = called .before .before .before .before .before .before .before in
+    let o = opened g in
+    let made = o .holds .made in
+    let listed =
+    rw (called .before .before .before .before .bytes-at .ensures .bytes, called .before .before .before .bytes-at2 .ensures .bytes) at (called .list-samples .ensures) in
+    rw (group-listed (s g) (t g) (room g) _ (o .told), o .holds .patterns, ← made .2) (listed .gives (made .0) (group g .entries) (made .1) (o .holds .entries))
 
 pub cue-listing-spec : {M : Type 1} → statement M
 cue-listing-spec =
     tie.close
     (tie.spec
-    find-sources-requires
-    enum-known-f
+    open-group-requires
+    enum-known-g
     enum-known-n
     returns
     bytes-at-requires
     bytes-at-requires-2
-    list-payloads-requires
+    list-samples-requires
     same-length
     same-length-2
     returns-2)

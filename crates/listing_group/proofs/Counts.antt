@@ -39,3 +39,11 @@ short-fits s (table.Patterns h) l c =
     let n = coveredBy-samples ps in
     let made = replay-fits unlimited [] (samplesOf ps) (record { counts = omega (arith, c, n); records = omega (arith, c, n) }) in
     rw (l .patterns, made .1) refl
+
+-- by the samples that are covered, where the rows need not be counted
+module _ (told : Answer Table) (m : ℕ) where
+  pub covered-given : {n : ℕ} → n ≡ m → given tt ≡ isGiven told → given n ≡ andThen told (λ x. given m)
+  covered-given e f = let made = given-first told (λ x. given tt) (sym f) in rw (made .1, e) refl
+
+  pub covered-refused : {n : ℕ} → refused n ≡ isGiven told → refused n ≡ andThen told (λ x. given m)
+  covered-refused f = let none = refused-first told (λ x. tt) (sym f) in rw none refl

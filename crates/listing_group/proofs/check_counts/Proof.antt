@@ -5,9 +5,9 @@ use Rattle.base_fields.specs.Answer.{Answer}
 use Rattle.table_rows.specs.Row.{Table}
 use Rattle.table_records.specs.Lent.{tableFrom}
 use Rattle.table_needed.specs.Needed.{unlimited}
-use Rattle.use_decode_start.proofs.Counts.{short-fits, counted-given, counted-refused}
-use Rattle.use_decode_start.proofs.check_counts.Statement.{statement}
-use Rattle.use_decode_start.proofs.check_counts.Tie as tie
+use Rattle.listing_group.proofs.Counts.{short-fits, counted-given, counted-refused}
+use Rattle.listing_group.proofs.check_counts.Statement.{statement}
+use Rattle.listing_group.proofs.check_counts.Tie as tie
 
 -- what the count is of
 abbrev rows : tie.After-count-rows → Answer Table
