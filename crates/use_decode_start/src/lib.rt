@@ -13,6 +13,7 @@ ghost use Rattle.use_decode_start.specs.Told.{toldStart};
 ghost use Rattle.use_decode_start.specs.From.{GivesIn};
 use base_fields::bytes_at;
 use base_fields::fourcc;
+use base_ids::SampleCount;
 use base_ids::SampleNumber;
 use group_sgpd::SgpdHead;
 use group_sgpd::entry_marks;
@@ -74,7 +75,7 @@ fn start_in(
     if latest == 0 {
         return DecodeStart::Nothing;
     }
-    DecodeStart::Sample(SampleNumber((latest - 1) as u32))
+    DecodeStart::Sample(SampleNumber((latest - 1) as SampleCount))
 }
 
 // For a type with distances.

@@ -1,6 +1,7 @@
 // The greatest begin of the samples of one position, by arithmetic. A sample or none is told by how many samples there are up to it, itself among them: 0 is none.
 // No step depends on whether there is one, so that a position costs the same whatever the counts are.
 use super::Distance;
+use base_ids::PatternCount;
 ghost use mathlib.Core.Path.{_≡_};
 ghost use Prim.Native.Nat.{_-_, _<_, _≤_, min, max};
 ghost use lib.Dec.{ltb};
@@ -36,11 +37,11 @@ fn turn_back(position: u32, cut: u32, length: u32) -> u32
 }
 
 // The last sample of a position below a limit, in a pattern that starts at sample `start`: of its n samples below the limit, `whole` are those of whole turns.
-fn last_below(limit: u64, start: u64, count: u32, length: u32, position: u32) -> u64
+fn last_below(limit: u64, start: u64, count: PatternCount, length: u32, position: u32) -> u64
     requires { ⌜ (start ≤ frameLimit) × (position < length) ⌝ }
     ensures { λ r. ⌜ toldLatest r ≡ positions.lastBelow limit start count length position ⌝ }
 {
-    let n = least(count as u64, without(limit, start)) as u32;
+    let n = least(count as u64, without(limit, start)) as PatternCount;
     let cut = n % length;
     let whole = n - cut;
     let back = turn_back(position, cut, length);
@@ -64,7 +65,7 @@ fn before(at: u64, d: u16) -> u64
 pub fn best_at(
     wanted: u64,
     start: u64,
-    count: u32,
+    count: PatternCount,
     length: u32,
     position: u32,
     distance: Distance,

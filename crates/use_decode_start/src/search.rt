@@ -5,6 +5,7 @@ use super::distances::index_distance;
 use super::positions::best_at;
 use super::positions::later;
 use super::positions::least;
+use base_ids::PatternCount;
 use group_sgpd::SgpdHead;
 use table_patterns::PatternAt;
 use table_patterns::index_at;
@@ -27,7 +28,7 @@ fn cut_pattern(pattern: PatternAt, left: u64) -> PatternAt
 {
     PatternAt {
         length: pattern.length,
-        count: least(left, pattern.count as u64) as u32,
+        count: least(left, pattern.count as u64) as PatternCount,
         width: pattern.width,
         indices: pattern.indices,
     }
