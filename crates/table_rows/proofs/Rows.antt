@@ -1,13 +1,12 @@
--- Laws of the records in a run of numbers: from a place on, and of numbers that were rows.
+-- Laws of the records in a run of numbers that were rows.
 use mathlib.Core.Path.{_≡_, refl, _∙_}
-use Prim.Native.Nat.{ℕ, _+_, _-_, _*_, _<_, _≤_}
+use Prim.Native.Nat.{ℕ, _+_, _*_, _<_, _≤_}
 use native.Mathlib.Omega.{arith}
 use mathlib.Core.List.{List, [], _∷_, _++_, append-nil}
-use lib.ListN.{length, getD, drop, set, length-drop, length-append}
-use borrow.Author.Tests.{lt-ltb, le-ltb}
+use lib.ListN.{length, drop, set, length-drop, length-append}
 use Rattle.base_fields.specs.Records.{numbersOf}
-use Rattle.base_fields.proofs.Records.{drop-two, numbers-length, numbers-append, put-next}
-use Rattle.table_rows.specs.Row.{Row, rowsOf, flat, covered, indexAt}
+use Rattle.base_fields.proofs.Records.{numbers-length, numbers-append, put-next}
+use Rattle.table_rows.specs.Row.{Row, rowsOf, flat}
 
 -- a run of fewer than two numbers has no record
 pub rows-none : (l : List ℕ) → length l < 2 → rowsOf l ≡ []
@@ -15,36 +14,6 @@ unfolding rowsOf
 rows-none [] h = refl
 rows-none (c ∷ []) h = refl
 rows-none (c ∷ i ∷ l) h = absurd (omega arith)
-
-module _ (l : List ℕ) (i : ℕ) (h : i + 1 < length l) where
-  -- the record at place i, and those behind it
-  pub rows-first : rowsOf (drop i l) ≡ record { count = getD l i 0; index = getD l (i + 1) 0 } ∷ rowsOf (drop (i + 2) l)
-  unfolding rowsOf
-  rows-first = rw (drop-two l i h)
-
-  pub index-first : (k : ℕ) → k < getD l i 0 → indexAt (rowsOf (drop i l)) k ≡ getD l (i + 1) 0
-  unfolding indexAt
-  index-first k b = rw rows-first (simp (lt-ltb _ _ b))
-
-  pub index-later : (k : ℕ) → getD l i 0 ≤ k → indexAt (rowsOf (drop i l)) k ≡ indexAt (rowsOf (drop (i + 2) l)) (k - getD l i 0)
-  unfolding indexAt
-  index-later k b = rw rows-first (simp (le-ltb _ _ b))
-
-  pub covered-first : covered (rowsOf (drop i l)) ≡ getD l i 0 + covered (rowsOf (drop (i + 2) l))
-  unfolding covered
-  covered-first = rw rows-first refl
-
-module _ (l : List ℕ) (i : ℕ) (h : length l ≤ i + 1) where
-  pub rows-end : rowsOf (drop i l) ≡ []
-  rows-end = rows-none (drop i l) (simp length-drop (omega arith))
-
-  pub index-end : (k : ℕ) → indexAt (rowsOf (drop i l)) k ≡ 0
-  unfolding indexAt
-  index-end k = rw rows-end refl
-
-  pub covered-end : covered (rowsOf (drop i l)) ≡ 0
-  unfolding covered
-  covered-end = rw rows-end refl
 
 -- rows are records of a count and an index
 flat-is : (rs : List Row) → flat rs ≡ numbersOf (λ r. r .count) (λ r. r .index) rs
