@@ -9,6 +9,9 @@ pub type PatternCount = u32;
 // The numbers of a run of rows: a sample count and a description index for each row.
 pub type RowNumber = SampleCount;
 
+// How many numbers of a run make a record.
+pub const RECORD_NUMBERS: usize = 2;
+
 // The largest count of a row.
 pub const COUNT_LIMIT: SampleCount = 4294967295;
 

@@ -4,7 +4,7 @@ use Prim.Native.Nat.{ℕ, _*_, _≤_}
 use mathlib.Core.List.{List, [], reverse}
 use lib.ListN.{length, take}
 use Rattle.base_fields.specs.Answer.{given}
-use Rattle.table_rows.specs.Row.{Row, Table, covered, indexAt, filled, tableRows, lookup}
+use Rattle.table_rows.specs.Row.{Row, Table, recordNumbers, covered, indexAt, filled, tableRows, lookup}
 use Rattle.base_ids.specs.Limits.{recordLimit}
 use Rattle.table_rows.specs.Pattern.{Pattern, samplesOf, coveredBy, indexOf}
 use Rattle.table_replay.specs.Replay.{replay}
@@ -28,5 +28,5 @@ module _ (s : List ℕ) (room : ℕ) {t : Table} {ps : List Pattern} (accepted :
   csgp-covered = rw (rows-of .2) (replay-covered room ps (rows-of .1))
 
   -- the same through group_index_for_sample, over the front of the run that parse_csgp wrote into
-  pub csgp-lookup : (l : List ℕ) → length (t .rows) ≤ recordLimit → (k : ℕ) → lookup (take (2 * length (t .rows)) (filled tableRows (given t) l)) k ≡ given (indexOf ps k)
+  pub csgp-lookup : (l : List ℕ) → length (t .rows) ≤ recordLimit → (k : ℕ) → lookup (take (recordNumbers * length (t .rows)) (filled tableRows (given t) l)) k ≡ given (indexOf ps k)
   csgp-lookup l few k = lookup-front t l few k ∙ ap given (csgp-index k)

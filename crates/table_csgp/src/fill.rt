@@ -5,6 +5,7 @@ ghost use Rattle.base_fields.specs.Answer.{given};
 ghost use Rattle.table_rows.specs.Row.{Row, recordsIn, filled};
 ghost use Rattle.table_csgp_head.specs.Head.{CsgpLaid};
 ghost use Rattle.table_csgp.specs.Rows.{rowsFor};
+use base_ids::RECORD_NUMBERS;
 use base_ids::RowNumber;
 use table_csgp_head::CsgpHead;
 use table_csgp_head::first_pattern;
@@ -25,7 +26,7 @@ pub fn fill(s: &[u8], head: CsgpHead, rows: &mut [RowNumber])
     requires { ⌜ (CsgpLaid (now s) head) × ((out : List Row) × (rowsFor (now s) (recordsIn (now rows)) ≡ given out)) ⌝ }
     ensures { λ r. ⌜ now (rows .exit) ≡ filled reverse (rowsFor (now (s .entry)) (recordsIn (now (rows .entry)))) (now (rows .entry)) ⌝ }
 {
-    let room = rows.len() / 2;
+    let room = rows.len() / RECORD_NUMBERS;
     let mut tail = Tail {
         rows: 0,
         count: 0,

@@ -5,6 +5,7 @@ pub mod measure;
 ghost use Rattle.table_rows.specs.Row.{recordsIn};
 ghost use Rattle.table_rows.specs.Found.{GivesTable};
 ghost use Rattle.table_csgp.specs.Table.{parseCsgp};
+use base_ids::RECORD_NUMBERS;
 use base_ids::RowNumber;
 use fill::fill;
 use measure::Measured;
@@ -22,7 +23,7 @@ pub fn parse_csgp(s: &[u8], rows: &mut [RowNumber]) -> ParsedTable
         ReadCsgp::Head(head) => head,
         ReadCsgp::Refused(n) => return ParsedTable::Refused(n),
     };
-    let entry_count = match measure(s, head, rows.len() / 2) {
+    let entry_count = match measure(s, head, rows.len() / RECORD_NUMBERS) {
         Measured::Rows(count) => count,
         Measured::Refused(n) => return ParsedTable::Refused(n),
     };

@@ -10,7 +10,7 @@ use lib.Seq.{ext-getD}
 use borrow.Author.Tests.{lt-ltb, le-ltb, ltb-false}
 use Rattle.base_fields.specs.Answer.{Answer, given, none, refused, andThen}
 use Rattle.base_fields.proofs.Answers.{given-inj, given-first, given-past, refused-given}
-use Rattle.table_rows.specs.Row.{Row, Table, filled, tableRows, flat, covered, indexAt, expand}
+use Rattle.table_rows.specs.Row.{Row, Table, recordNumbers, filled, tableRows, flat, covered, indexAt, expand}
 use Rattle.table_rows.specs.Pattern.{Pattern, samplesOf, coveredBy, indexOf}
 use Rattle.table_rows.proofs.Samples.{covered-expand, indexAt-expand, coveredBy-samples, indexOf-samples}
 use Rattle.table_sbgp.specs.Sbgp.{readRows, sbgp, entered, parseSbgp}
@@ -49,7 +49,7 @@ module _ (s : List ℕ) (room : ℕ) where
         ]
 
     pub rows-filled : h .«entry_count» ≤ room → (l : List ℕ)
-        → flat (readRows (h .«entry_count») s (h .first)) ++ drop (2 * h .«entry_count») l ≡ filled tableRows (parseSbgp s room) l
+        → flat (readRows (h .«entry_count») s (h .first)) ++ drop (recordNumbers * h .«entry_count») l ≡ filled tableRows (parseSbgp s room) l
     rows-filled b run = let e = readRows-length (h .«entry_count») s (h .first) in rw (l .table) (simp (e, le-ltb _ _ b))
 
   pub patterns-counted : andThen (rowsFor s room) (λ rows. given (length rows)) ≡ counted (parseCsgp s room)

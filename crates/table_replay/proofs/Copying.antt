@@ -7,67 +7,59 @@ use native.Mathlib.Nat.{zero-add, zero-mul, suc-mul}
 use native.Mathlib.Omega.{arith}
 use mathlib.Core.List.{List, [], _∷_, _++_, reverse, reverse-cons, reverse-append, reverse-reverse, append-assoc}
 use lib.Dec.{eqb}
-use lib.ListN.{length, drop, set, getD, length-append, length-reverse}
-use lib.Seq.{drop-cons, set-at, getD-append-add}
+use lib.ListN.{length, take, drop, getD, length-append, length-drop, length-reverse}
+use lib.Seq.{length-take-le, getD-at}
 use Rattle.base_fields.specs.Answer.{choose}
-use Rattle.table_rows.specs.Row.{Row, flat, putRow}
-use Rattle.table_rows.proofs.Rows.{flat-length, flat-append}
+use Rattle.table_rows.specs.Row.{Row, noRow, recordNumbers, rowsOf, flat, putRow}
+use Rattle.table_rows.proofs.Rows.{flat-length, flat-append, rowsOf-append, record-parts, put-over}
 use Rattle.table_replay.proofs.Repeating.{stacked}
 use Rattle.table_replay.specs.Records.{copied, Written}
 use Rattle.table_replay.proofs.Entering.{below}
 
-flat-last : (r : Row) (rs : List Row) → flat (reverse (r ∷ rs)) ≡ flat (reverse rs) ++ r .count ∷ r .index ∷ []
-unfolding flat
-flat-last r rs = rw (reverse-cons, flat-append)
+flat-last : (r : Row) (rs : List Row) → flat (reverse (r ∷ rs)) ≡ flat (reverse rs) ++ flat (r ∷ [])
+flat-last r rs = rw (reverse-cons, flat-append) refl
 
-pub front-length : (rows : List Row) → length (flat (reverse rows)) ≡ 2 * length rows
+pub front-length : (rows : List Row) → length (flat (reverse rows)) ≡ recordNumbers * length rows
 front-length rows = flat-length (reverse rows) ∙ rw (length-reverse rows) refl
 
 module _ (e l : List ℕ) where
-  written-front : (rows : List Row) → Written e l rows → l ≡ flat (reverse rows) ++ drop (2 * length rows) e
+  written-front : (rows : List Row) → Written e l rows → l ≡ flat (reverse rows) ++ drop (recordNumbers * length rows) e
   written-front rows w = w ∙ rw (length-reverse rows) refl
 
-  -- two numbers behind the rows that a run leaves below the last one
+  -- a record behind the rows that a run leaves below the last one
   abbrev pub Place : List Row → Type 0
-  Place rows = (a : ℕ) × (b : ℕ) × (l ≡ flat (reverse rows) ++ a ∷ b ∷ drop (2 * suc (length rows)) e)
+  Place rows = (w : List ℕ) × (length w ≡ recordNumbers) × (l ≡ flat (reverse rows) ++ (w ++ drop (recordNumbers * suc (length rows)) e))
 
-  place-new : (rows : List Row) → Written e l rows → 2 * length rows + 2 ≤ length e → Place rows
+  place-new : (rows : List Row) → Written e l rows → recordNumbers * suc (length rows) ≤ length e → Place rows
   place-new rows w h =
-      let m = 2 * length rows in
-      let n : suc (suc m) ≡ 2 * suc (length rows) = omega arith in
-      let a : m < length e = omega arith in
-      let b : suc m < length e = omega arith in (
-        getD e m 0,
-        getD e (suc m) 0,
-        written-front rows w ∙ rw (drop-cons e m 0 a, drop-cons e (suc m) 0 b, n) refl,
-      )
+      let m = recordNumbers * length rows in
+      let n : recordNumbers * suc (length rows) ≡ m + recordNumbers = omega arith in
+      let some : recordNumbers ≤ length (drop m e) = simp length-drop (omega arith) in
+      let parts = ap (λ (d : List ℕ). flat (reverse rows) ++ d) (record-parts m e) in
+      (take recordNumbers (drop m e), length-take-le recordNumbers (drop m e) some, written-front rows w ∙ rw n parts)
 
   place-last : (r : Row) (rs : List Row) → Written e l (r ∷ rs) → Place rs
-  place-last r rs w = (r .count, r .index, written-front (r ∷ rs) w ∙ rw (flat-last r rs, append-assoc))
+  place-last r rs w = (flat (r ∷ []), flat-length (r ∷ []), written-front (r ∷ rs) w ∙ rw (flat-last r rs, append-assoc) refl)
 
-  pub place-below : (rows : List Row) (i : ℕ) → Written e l rows → 2 * length (below rows i) + 2 ≤ length e → Place (below rows i)
+  pub place-below : (rows : List Row) (i : ℕ) → Written e l rows → recordNumbers * suc (length (below rows i)) ≤ length e → Place (below rows i)
   place-below [] i w h = place-new [] w h
   place-below (r ∷ rs) i w h = by (eqb (r .index) i) h
     where
-      by : (b : Bool) → 2 * length (choose b rs (r ∷ rs)) + 2 ≤ length e → Place (choose b rs (r ∷ rs))
+      by : (b : Bool) → recordNumbers * suc (length (choose b rs (r ∷ rs))) ≤ length e → Place (choose b rs (r ∷ rs))
       by true h = place-last r rs w
       by false h = place-new (r ∷ rs) w h
 
   pub put : (rows : List Row) (x : Row) → Place rows → Written e (putRow (length rows) (x .count) (x .index) l) (x ∷ rows)
-  put rows x (a, b, w) =
+  put rows x (v, n, w) =
       let f = flat (reverse rows) in
-      let m = 2 * length rows in
-      let d = drop (2 * suc (length rows)) e in
-      let n : length (f ++ x .count ∷ []) ≡ m + 1 = length-append f (x .count ∷ []) ∙ omega (arith, front-length rows) in
-      let one : set l m (x .count) ≡ (f ++ x .count ∷ []) ++ b ∷ d =
-      ap (λ (k : List ℕ). set k m (x .count)) w ∙ set-at f a (b ∷ d) (x .count) m (front-length rows) ∙ sym (append-assoc f (x .count ∷ []) (b ∷ d)) in
-      ap (λ (k : List ℕ). set k (m + 1) (x .index)) one
-      ∙ set-at (f ++ x .count ∷ []) b d (x .index) (m + 1) n
-      ∙ append-assoc f (x .count ∷ []) (x .index ∷ d)
-      ∙ rw (length-reverse (x ∷ rows), flat-last x rows) (sym (append-assoc f (x .count ∷ x .index ∷ []) d))
+      let d = drop (recordNumbers * suc (length rows)) e in
+      ap (λ (k : List ℕ). putRow (length rows) (x .count) (x .index) k) w
+      ∙ put-over f v d (length rows) x (front-length rows) n
+      ∙ rw (length-reverse (x ∷ rows), flat-last x rows) (sym (append-assoc f (flat (x ∷ [])) d))
 
 -- one turn of the loop that copies, and its end
-pub copied-one : (i j end : ℕ) (l : List ℕ) {m : List ℕ} → 0 < i → i ≤ j → j < end → m ≡ putRow (j - 1) (getD l (2 * (i - 1)) 0) (getD l (2 * (i - 1) + 1) 0) l →
+pub copied-one : (i j end : ℕ) (l : List ℕ) {m : List ℕ} → 0 < i → i ≤ j → j < end →
+    m ≡ putRow (j - 1) (getD (rowsOf l) (i - 1) noRow .count) (getD (rowsOf l) (i - 1) noRow .index) l →
     copied (end - j) (i - 1) (j - 1) l ≡ copied (end - (j + 1)) (i + 1 - 1) (j + 1 - 1) m
 unfolding copied
 copied-one i j end l p q h e =
@@ -90,31 +82,22 @@ copied-add (suc m) n i j l =
     rw (a, b, c) (copied-add m n (suc i) (suc j) _)
 
 -- a row among those in front
-module _ (above : List Row) (x : Row) (others : List Row) (rest : List ℕ) where
-  front-parts : flat (reverse (above ++ x ∷ others)) ++ rest ≡ flat (reverse others) ++ (x .count ∷ x .index ∷ (flat (reverse above) ++ rest))
-  front-parts = rw (reverse-append, flat-append, flat-last) (simp append-assoc)
-
-  front-count : getD (flat (reverse (above ++ x ∷ others)) ++ rest) (2 * length others) 0 ≡ x .count
-  front-count =
-      let n : 2 * length others ≡ length (flat (reverse others)) + 0 = omega (arith, front-length others) in
-      rw (front-parts, n) (getD-append-add (flat (reverse others)) _ 0 0)
-
-  front-index : getD (flat (reverse (above ++ x ∷ others)) ++ rest) (2 * length others + 1) 0 ≡ x .index
-  front-index =
-      let n : 2 * length others + 1 ≡ length (flat (reverse others)) + 1 = omega (arith, front-length others) in
-      rw (front-parts, n) (getD-append-add (flat (reverse others)) _ 1 0)
+front-row : (above : List Row) (x : Row) (others : List Row) (rest : List ℕ) → getD (rowsOf (flat (reverse (above ++ x ∷ others)) ++ rest)) (length others) noRow ≡ x
+front-row above x others rest =
+    let parts : reverse (above ++ x ∷ others) ++ rowsOf rest ≡ reverse others ++ x ∷ (reverse above ++ rowsOf rest) = rw (reverse-append, reverse-cons) (simp append-assoc) in
+    rw (rowsOf-append, parts) (getD-at (reverse others) x _ noRow (length others) (length-reverse others))
 
 module _ (e : List ℕ) where
   -- a row copied behind the others
-  copy-one : (l : List ℕ) (rows above : List Row) (x : Row) (others : List Row) → rows ≡ above ++ x ∷ others → Place e l rows → 2 * length rows + 4 ≤ length e →
-      Place e (putRow (length rows) (getD l (2 * length others) 0) (getD l (2 * length others + 1) 0) l) (x ∷ rows)
+  copy-one : (l : List ℕ) (rows above : List Row) (x : Row) (others : List Row) → rows ≡ above ++ x ∷ others → Place e l rows → recordNumbers * suc (suc (length rows)) ≤ length e →
+      Place e (putRow (length rows) (getD (rowsOf l) (length others) noRow .count) (getD (rowsOf l) (length others) noRow .index) l) (x ∷ rows)
   copy-one l rows above x others q p h =
-      let w : l ≡ flat (reverse (above ++ x ∷ others)) ++ p .0 ∷ p .1 ∷ drop (2 * suc (length rows)) e = p .2 ∙ ap (λ (rs : List Row). flat (reverse rs) ++ p .0 ∷ p .1 ∷ drop (2 * suc (length rows)) e) q in
-      let c : getD l (2 * length others) 0 ≡ x .count = ap (λ (k : List ℕ). getD k (2 * length others) 0) w ∙ front-count above x others _ in
-      let d : getD l (2 * length others + 1) 0 ≡ x .index = ap (λ (k : List ℕ). getD k (2 * length others + 1) 0) w ∙ front-index above x others _ in
-      place-new e _ (x ∷ rows) (rw (c, d) (put e l rows x p)) (omega arith)
+      let rest = p .0 ++ drop (recordNumbers * suc (length rows)) e in
+      let w : l ≡ flat (reverse (above ++ x ∷ others)) ++ rest = p .2 ∙ ap (λ (rs : List Row). flat (reverse rs) ++ rest) q in
+      let r : getD (rowsOf l) (length others) noRow ≡ x = ap (λ (k : List ℕ). getD (rowsOf k) (length others) noRow) w ∙ front-row above x others rest in
+      place-new e _ (x ∷ rows) (rw r (put e l rows x p)) h
 
-  copy-all : (xs done others : List Row) (l : List ℕ) → Place e l (done ++ (reverse xs ++ others)) → 2 * length (done ++ (reverse xs ++ others)) + 2 * length xs + 2 ≤ length e →
+  copy-all : (xs done others : List Row) (l : List ℕ) → Place e l (done ++ (reverse xs ++ others)) → recordNumbers * suc (length (done ++ (reverse xs ++ others)) + length xs) ≤ length e →
       Place e (copied (length xs) (length others) (length (done ++ (reverse xs ++ others))) l) (reverse xs ++ (done ++ (reverse xs ++ others)))
   unfolding copied
   copy-all [] done others l p h = p
@@ -126,13 +109,13 @@ module _ (e : List ℕ) where
       let one = copy-one l R (done ++ reverse xs) x others (sym (append-assoc done (reverse xs) (x ∷ others))) (rw q at p) (omega arith) in
       rw (q, z) (copy-all xs (x ∷ done) (x ∷ others) _ one (omega arith))
 
-  copy-period : (period others : List Row) (l : List ℕ) → Place e l (period ++ others) → 2 * length (period ++ others) + 2 * length period + 2 ≤ length e →
+  copy-period : (period others : List Row) (l : List ℕ) → Place e l (period ++ others) → recordNumbers * suc (length (period ++ others) + length period) ≤ length e →
       Place e (copied (length period) (length others) (length (period ++ others)) l) (period ++ (period ++ others))
   copy-period period others l p h =
       rw (reverse-reverse, length-reverse) at (copy-all (reverse period) [] others l (rw reverse-reverse p) (rw (reverse-reverse, length-reverse) h))
 
   -- n periods
-  copy-periods : (n : ℕ) (period others : List Row) (l : List ℕ) → Place e l (period ++ others) → 2 * length (period ++ others) + 2 * (n * length period) + 2 ≤ length e →
+  copy-periods : (n : ℕ) (period others : List Row) (l : List ℕ) → Place e l (period ++ others) → recordNumbers * suc (length (period ++ others) + n * length period) ≤ length e →
       Place e (copied (n * length period) (length others) (length (period ++ others)) l) (stacked n period (period ++ others))
   unfolding copied stacked
   copy-periods zero period others l p h = rw zero-mul p
@@ -152,7 +135,7 @@ module _ (e : List ℕ) where
 
   -- the rows of n periods copied, where there are any
   pub copy-growth : (n a b : ℕ) (period others low : List Row) (l : List ℕ) → low ≡ period ++ others → (n ≡ 0) ⊎ (suc (length others) ≡ a) → b ≡ suc (length low) → Place e l low →
-      2 * length low + 2 * (n * length period) + 2 ≤ length e → Place e (copied (n * length period) (a - 1) (b - 1) l) (stacked n period low)
+      recordNumbers * suc (length low + n * length period) ≤ length e → Place e (copied (n * length period) (a - 1) (b - 1) l) (stacked n period low)
   copy-growth n a b period others low l parts from q p h =
       ⊎-elim
       (λ z.

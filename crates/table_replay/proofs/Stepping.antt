@@ -9,7 +9,7 @@ use mathlib.Core.List.{List, _∷_}
 use lib.ListN.{length, replicate}
 use Rattle.base_fields.specs.Answer.{Answer, given, refused}
 use Rattle.base_ids.specs.Limits.{countLimit}
-use Rattle.table_rows.specs.Row.{Row}
+use Rattle.table_rows.specs.Row.{Row, recordNumbers}
 use Rattle.table_rows.specs.Pattern.{Pattern, indexIn, samplesFrom}
 use Rattle.table_rows.proofs.Samples.{samplesFrom-add, samplesFrom-run}
 use Rattle.table_patterns.proofs.Indices.{indices-length}
@@ -141,7 +141,7 @@ module _ (p : Pattern) (room : ℕ) (at : ReplayState) (r : Run) (g : GivesRun p
       state = passed-state p room t last low entered run-state o
 
       -- the rows of the periods are copied behind those that stood, and the last row is put
-      written : (e l : List ℕ) → 2 * room ≤ length e → Written e l rows → Written e (putStep at stepped (tail .rows) l) (last ∷ up)
+      written : (e l : List ℕ) → recordNumbers * room ≤ length e → Written e l rows → Written e (putStep at stepped (tail .rows) l) (last ∷ up)
       written e l records h =
           let before = ap (λ (y : Tail). y .rows) (run-state .standing) in
           let v = ap (λ (y : Tail). y .rows) (o .rows) in

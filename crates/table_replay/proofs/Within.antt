@@ -7,7 +7,7 @@ use mathlib.Core.List.{List, [], _++_, reverse, append-assoc}
 use lib.ListN.{length}
 use Rattle.base_fields.specs.Answer.{Answer, given, refused}
 use Rattle.base_ids.specs.Limits.{countLimit}
-use Rattle.table_rows.specs.Row.{Row, flat, filled}
+use Rattle.table_rows.specs.Row.{Row, recordNumbers, flat, filled}
 use Rattle.table_rows.specs.Pattern.{Pattern, samplesFrom}
 use Rattle.table_rows.proofs.Samples.{samplesFrom-add}
 use Rattle.table_replay.specs.Enter.{tailOf}
@@ -32,7 +32,7 @@ pub record Replaying (answer : Answer (List Row)) (room : ℕ) (coming : List �
 -- the same with the rows in front of the run l, which was e
 pub record Filling (answer : Answer (List Row)) (room : ℕ) (coming : List ℕ) (tail : Tail) (e l : List ℕ) : Type 0 where
   pub replaying : Replaying answer room coming tail
-  pub records : 2 * room ≤ length e
+  pub records : recordNumbers * room ≤ length e
   pub written : Written e l (replaying .rows)
 
 abbrev pub noRows : Tail
@@ -42,7 +42,7 @@ module _ {answer : Answer (List Row)} {room : ℕ} where
   abbrev pub replaying-first : {coming : List ℕ} → answer ≡ replay room [] coming → Replaying answer room coming noRows
   replaying-first e = record { rows = []; standing = refl; small = omega arith; roomy = omega arith; decides = e }
 
-  pub filling-first : {coming : List ℕ} (e : List ℕ) → answer ≡ replay room [] coming → 2 * room ≤ length e → Filling answer room coming noRows e e
+  pub filling-first : {coming : List ℕ} (e : List ℕ) → answer ≡ replay room [] coming → recordNumbers * room ≤ length e → Filling answer room coming noRows e e
   unfolding flat
   filling-first e d h = record { replaying = replaying-first d; records = h; written = refl }
 

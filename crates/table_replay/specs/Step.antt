@@ -5,7 +5,7 @@ use mathlib.Core.List.{List}
 use lib.ListN.{length}
 use Rattle.base_fields.specs.Answer.{given, refused}
 use Rattle.base_ids.specs.Limits.{countLimit}
-use Rattle.table_rows.specs.Row.{Row, putRow}
+use Rattle.table_rows.specs.Row.{Row, recordNumbers, putRow}
 use Rattle.table_rows.specs.Pattern.{Pattern, samplesFrom}
 use Rattle.table_patterns.specs.Run.{GivesRun}
 use Rattle.table_patterns.specs.declared.PatternAt.{PatternAt}
@@ -57,7 +57,7 @@ pub record Steps (p : Pattern) (room : ℕ) (rows : List Row) (at next : ReplayS
   pub state : StateOf p room out next
   pub some : 0 < next .tail .rows
   pub copies : stood < next .tail .rows → (0 < at .mark .tail .rows) × (at .mark .tail .rows ≤ stood)
-  pub written : (e l : List ℕ) → 2 * room ≤ length e → Written e l rows → Written e (putStep at next stood l) out
+  pub written : (e l : List ℕ) → recordNumbers * room ≤ length e → Written e l rows → Written e (putStep at next stood l) out
 
 -- the samples from a state on to the pattern's end cannot all be entered
 abbrev pub Refuses : Pattern → ℕ → ReplayState → ℕ → Type 0

@@ -4,7 +4,7 @@ use mathlib.Core.List.{List, _++_}
 use Prim.Native.Nat.{ℕ, _-_, _*_, _≤_}
 use lib.ListN.{length}
 use Rattle.base_fields.specs.Answer.{Answer}
-use Rattle.table_rows.specs.Row.{Row}
+use Rattle.table_rows.specs.Row.{Row, recordNumbers}
 use Rattle.table_rows.specs.Pattern.{Pattern, samplesFrom}
 use Rattle.table_replay.specs.Records.{Written}
 use Rattle.table_replay.specs.Replay.{replay}
@@ -21,7 +21,7 @@ pub record Within (answer : Answer (List Row)) (room : ℕ) (p : Pattern) (rest 
 -- the same with the rows in front of the run l, which was e
 pub record FillingWithin (answer : Answer (List Row)) (room : ℕ) (p : Pattern) (rest : List ℕ) (at : ReplayState) (e l : List ℕ) : Type 0 where
   pub within : Within answer room p rest at
-  pub records : 2 * room ≤ length e
+  pub records : recordNumbers * room ≤ length e
   pub written : Written e l (within .rows)
 
 -- some samples were entered: what decided the answer still does

@@ -2,6 +2,7 @@
 ghost use mathlib.Core.Path.{_≡_};
 ghost use Prim.Native.Nat.{_-_, _*_, _≤_, _<_};
 ghost use lib.ListN.{length};
+ghost use Rattle.table_rows.specs.Row.{recordNumbers};
 ghost use Rattle.table_replay.specs.Records.{copied};
 use base_ids::RowNumber;
 use table_rows::record::count_at;
@@ -10,7 +11,7 @@ use table_rows::record::put_row;
 
 // Copies rows, counted from 1: row `from` to row `to`, and so on up to row `end` - 1.
 pub fn copy_rows(rows: &mut [RowNumber], from: usize, to: usize, end: usize)
-    requires { ⌜ (2 * end ≤ length (now rows)) × (to < end → (0 < from) × (from ≤ to)) ⌝ }
+    requires { ⌜ (recordNumbers * end ≤ length (now rows)) × (to < end → (0 < from) × (from ≤ to)) ⌝ }
     ensures { λ r. ⌜ now (rows .exit) ≡ copied (end - to) (from - 1) (to - 1) (now (rows .entry)) ⌝ }
 {
     let mut i = from;

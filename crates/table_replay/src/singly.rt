@@ -8,6 +8,7 @@ ghost use Rattle.table_replay.specs.Within.{Singly, SinglyWritten};
 use crate::enter::Tail;
 use crate::step::ReplayState;
 use base_ids::PatternCount;
+use base_ids::RECORD_NUMBERS;
 use base_ids::RowNumber;
 use base_ids::SampleCount;
 use table_patterns::PatternAt;
@@ -110,7 +111,7 @@ pub fn write_singly(
     if turn == 0 {
         return state;
     }
-    let room = rows.len() / 2;
+    let room = rows.len() / RECORD_NUMBERS;
     let mark = state.mark;
     let step = pattern.width as usize;
     let last = last_of_period(pattern, state.sample, turn);

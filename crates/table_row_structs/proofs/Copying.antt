@@ -1,15 +1,17 @@
 -- The records of a run of numbers as structs, and a run written over rows one record at a time.
 use mathlib.Core.Path.{_≡_, refl, ap, sym, _∙_}
-use Prim.Native.Nat.{ℕ, zero, suc, _+_, _*_, _<_, _≤_}
+use Prim.Native.Nat.{ℕ, suc, _+_, _<_, _≤_}
 use native.Mathlib.Decide.{decLt}
 use native.Mathlib.Numerals.{add-one}
 use native.Mathlib.Omega.{arith}
 use mathlib.Core.List.{List, [], _∷_, _++_, map, append-assoc}
-use lib.ListN.{length, getD, set, take, drop, length-append, length-drop}
+use lib.ListN.{length, getD, set, take, drop, length-append, length-drop, length-map, List·getD-map}
 use lib.Seq.{length-take-le, take-all, take-suc, drop-cons, set-at}
 use borrow.Author.Tests.{lt-ltb, le-ltb}
 use Rattle.base_fields.specs.Answer.{Answer, given}
+use Rattle.table_rows.specs.Row as row
 use Rattle.table_rows.specs.Row.{Row, rowsOf, recordsIn}
+use Rattle.table_rows.proofs.RowAt.{rows-length}
 use Rattle.base_ids.specs.Limits.{recordLimit}
 use Rattle.table_row_structs.specs.Records.{noRow, rowOf, recordRows, copyAnswer, rowsCopied, structOf, structsOf, copyInto}
 use Rattle.table_row_structs.specs.Steps.{acceptedIn, toldWritten, GivesRows}
@@ -18,22 +20,11 @@ use Rattle.table_row_structs.specs.declared.Written.{Written}
 use Rattle.table_row_structs.specs.declared.Written.the-variants as written
 
 pub entries-length : (l : List ℕ) → length (structsOf l) ≡ recordsIn l
-unfolding rowsOf
-entries-length [] = refl
-entries-length (c ∷ []) = omega arith
-entries-length (c ∷ i ∷ l) = omega (arith, entries-length l)
+entries-length l = length-map (rowsOf l) structOf ∙ rows-length l
 
 -- the record at a place
-pub entry-at : (l : List ℕ) (k : ℕ) → k < recordsIn l →
-    getD (structsOf l) k noRow ≡ record { «sample_count» = getD l (2 * k) 0; «group_description_index» = getD l (2 * k + 1) 0 }
-unfolding rowsOf
-entry-at [] k h = absurd (omega arith)
-entry-at (c ∷ []) k h = absurd (omega arith)
-entry-at (c ∷ i ∷ l) zero h = refl
-entry-at (c ∷ i ∷ l) (suc k) h =
-    let a : 2 * suc k ≡ suc (suc (2 * k)) = omega arith in
-    let b : 2 * suc k + 1 ≡ suc (suc (2 * k + 1)) = omega arith in
-    rw (b, a) (entry-at l k (omega arith))
+pub entry-at : (l : List ℕ) (k : ℕ) → getD (structsOf l) k noRow ≡ structOf (getD (rowsOf l) k row.noRow)
+entry-at l k = List·getD-map structOf (rowsOf l) k row.noRow
 
 -- the structs of a run of numbers are its rows
 pub entries-rows : (l : List ℕ) → recordRows (structsOf l) ≡ rowsOf l

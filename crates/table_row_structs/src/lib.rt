@@ -3,17 +3,20 @@ ghost use mathlib.Core.Path.{_≡_};
 ghost use Prim.Native.Nat.{_<_, _/_};
 ghost use lib.ListN.{length, getD};
 ghost use Rattle.base_fields.specs.Answer.{given, none};
-ghost use Rattle.table_rows.specs.Row.{withinRecords};
+ghost use Rattle.table_rows.specs.Row.{recordNumbers, recordsIn, withinRecords};
 ghost use Rattle.table_rows.specs.Found.{toldIndex, toldCovered};
 ghost use Rattle.table_row_structs.specs.Records.{noRow, rowIn, setAnswer, lookupIn, totalIn, orTooMany, readCount, copyAnswer, structsOf};
 ghost use Rattle.table_row_structs.specs.Steps.{toldRow, toldSet, GivesSet, acceptedIn, searchFrom, passed, toldWritten, GivesRows};
 use base_ids::DescriptionIndex;
 use base_ids::RECORD_LIMIT;
+use base_ids::RECORD_NUMBERS;
 use base_ids::RowNumber;
 use base_ids::SampleCount;
 use base_ids::SampleNumber;
 use table_rows::Covered;
 use table_rows::Found;
+use table_rows::record::count_at;
+use table_rows::record::description_at;
 
 // A row: so many samples of one description index.
 pub struct SampleToGroupEntry {
@@ -146,21 +149,22 @@ pub fn covered_samples(rows: &[SampleToGroupEntry]) -> Covered
 
 // The record at place k of a run of numbers.
 fn record_at(numbers: &[RowNumber], k: usize) -> SampleToGroupEntry
-    requires { ⌜ k < length (now numbers) / 2 ⌝ }
+    requires { ⌜ k < recordsIn (now numbers) ⌝ }
     ensures { λ r. ⌜ r ≡ getD (structsOf (now (numbers .entry))) k noRow ⌝ }
 {
-    let at = 2 * k;
+    let count = count_at(numbers, k);
+    let index = description_at(numbers, k);
     SampleToGroupEntry {
-        sample_count: numbers[at],
-        group_description_index: numbers[at + 1],
+        sample_count: count,
+        group_description_index: index,
     }
 }
 
 // What is answered where a run of so many numbers is written over so many rows.
 fn written_over(numbers: usize, rows: usize) -> Written
-    ensures { λ r. ⌜ toldWritten r ≡ copyAnswer (numbers / 2) rows ⌝ }
+    ensures { λ r. ⌜ toldWritten r ≡ copyAnswer (numbers / recordNumbers) rows ⌝ }
 {
-    let records = numbers / 2;
+    let records = numbers / RECORD_NUMBERS;
     if RECORD_LIMIT < records {
         return Written::Refused(55);
     }

@@ -7,9 +7,9 @@ use mathlib.Core.List.{List, [], _∷_}
 use lib.ListN.{length, getD, drop}
 use lib.Seq.{drop-cons, drop-length}
 use borrow.Author.Tests.{lt-ltb, le-ltb}
-use Rattle.table_rows.specs.Row.{Row, rowsOf, recordsIn, noRow, covered, indexAt}
+use Rattle.table_rows.specs.Row.{Row, recordNumbers, rowsOf, recordsIn, noRow, covered, indexAt}
 
--- each pair of numbers is a row
+-- so many numbers are a row
 pub rows-length : (l : List ℕ) → length (rowsOf l) ≡ recordsIn l
 unfolding rowsOf
 rows-length [] = refl
@@ -17,7 +17,7 @@ rows-length (c ∷ []) = refl
 rows-length (c ∷ i ∷ l) = omega (arith, rows-length l)
 
 -- the numbers of record k
-pub row-at : (l : List ℕ) (k : ℕ) → k < recordsIn l → getD (rowsOf l) k noRow ≡ record { count = getD l (2 * k) 0; index = getD l (2 * k + 1) 0 }
+pub row-at : (l : List ℕ) (k : ℕ) → k < recordsIn l → getD (rowsOf l) k noRow ≡ record { count = getD l (recordNumbers * k) 0; index = getD l (recordNumbers * k + 1) 0 }
 unfolding rowsOf
 row-at [] k h = absurd (omega arith)
 row-at (c ∷ []) k h = absurd (omega arith)

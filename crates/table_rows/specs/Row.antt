@@ -2,13 +2,18 @@
 use Prim.Native.Nat.{ℕ, _+_, _-_, _*_, _/_}
 use mathlib.Core.List.{List, [], _∷_, _++_}
 use lib.Dec.{ltb}
-use lib.ListN.{length, replicate, drop, set}
+use lib.ListN.{length, replicate, drop}
+use lib.Seq.{sets}
 use Rattle.base_fields.specs.Answer.{Answer, given, none, refused, choose, refuseIf}
 use Rattle.base_ids.specs.Limits.{recordLimit}
 
 pub record Row : Type 0 where
   pub count : ℕ
   pub index : ℕ
+
+-- how many numbers of a run make a record
+abbrev pub recordNumbers : ℕ
+recordNumbers = 2
 
 -- the records of a run of numbers: pairs of a sample count and an index. A last number without a partner is no record
 unfoldable pub rowsOf : List ℕ → List Row
@@ -27,11 +32,11 @@ flat (r ∷ rs) = r .count ∷ r .index ∷ flat rs
 
 -- how many records a run of numbers has
 abbrev pub recordsIn : List ℕ → ℕ
-recordsIn l = length l / 2
+recordsIn l = length l / recordNumbers
 
--- a row put over record k
+-- a row put over record k: its numbers stored one after the other
 abbrev pub putRow : ℕ → ℕ → ℕ → List ℕ → List ℕ
-putRow k count index l = set (set l (2 * k) count) (2 * k + 1) index
+putRow k count index l = sets l (recordNumbers * k) (flat (record { count = count; index = index } ∷ []))
 
 -- the samples that rows cover
 unfoldable pub covered : List Row → ℕ
@@ -67,7 +72,7 @@ pub record Table : Type 0 where
 
 -- a run of numbers after the rows of a value were written in front; on none and refusal it stays
 abbrev pub filled : {A : Type 0} → (A → List Row) → Answer A → List ℕ → List ℕ
-filled rows (given a) l = flat (rows a) ++ drop (2 * length (rows a)) l
+filled rows (given a) l = flat (rows a) ++ drop (recordNumbers * length (rows a)) l
 filled rows none l = l
 filled rows (refused n) l = l
 

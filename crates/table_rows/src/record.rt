@@ -3,6 +3,7 @@ ghost use mathlib.Core.Path.{_≡_};
 ghost use Prim.Native.Nat.{_<_};
 ghost use lib.ListN.{getD};
 ghost use Rattle.table_rows.specs.Row.{rowsOf, recordsIn, noRow, putRow};
+use base_ids::RECORD_NUMBERS;
 use base_ids::RowNumber;
 use base_ids::SampleCount;
 
@@ -10,7 +11,7 @@ use base_ids::SampleCount;
 pub fn record_count(rows: &[RowNumber]) -> usize
     ensures { λ r. ⌜ r ≡ recordsIn (now (rows .entry)) ⌝ }
 {
-    rows.len() / 2
+    rows.len() / RECORD_NUMBERS
 }
 
 // The sample count of record k.
@@ -18,7 +19,7 @@ pub fn count_at(rows: &[RowNumber], k: usize) -> SampleCount
     requires { ⌜ k < recordsIn (now rows) ⌝ }
     ensures { λ r. ⌜ r ≡ getD (rowsOf (now (rows .entry))) k noRow .count ⌝ }
 {
-    rows[2 * k]
+    rows[RECORD_NUMBERS * k]
 }
 
 // The description index of record k.
@@ -26,7 +27,7 @@ pub fn description_at(rows: &[RowNumber], k: usize) -> u32
     requires { ⌜ k < recordsIn (now rows) ⌝ }
     ensures { λ r. ⌜ r ≡ getD (rowsOf (now (rows .entry))) k noRow .index ⌝ }
 {
-    rows[2 * k + 1]
+    rows[RECORD_NUMBERS * k + 1]
 }
 
 // Writes a row over record k.
@@ -34,6 +35,6 @@ pub fn put_row(rows: &mut [RowNumber], k: usize, count: SampleCount, index: u32)
     requires { ⌜ k < recordsIn (now rows) ⌝ }
     ensures { λ _. ⌜ now (rows .exit) ≡ putRow k count index (now (rows .entry)) ⌝ }
 {
-    rows[2 * k] = count;
-    rows[2 * k + 1] = index;
+    rows[RECORD_NUMBERS * k] = count;
+    rows[RECORD_NUMBERS * k + 1] = index;
 }

@@ -4,7 +4,7 @@ use mathlib.Core.List.{List, map}
 use Prim.Native.Nat.{ℕ, _*_, _≤_}
 use lib.ListN.{length, getD, take}
 use Rattle.base_fields.specs.Answer.{given}
-use Rattle.table_rows.specs.Row.{Table, covered, indexAt, filled, tableRows, lookup}
+use Rattle.table_rows.specs.Row.{Table, recordNumbers, covered, indexAt, filled, tableRows, lookup}
 use Rattle.base_ids.specs.Limits.{recordLimit}
 use Rattle.table_rows.specs.Pattern.{single, indexOf, coveredBy}
 use Rattle.table_rows.proofs.Front.{lookup-front}
@@ -22,5 +22,5 @@ module _ (s : List ℕ) (room : ℕ) {t : Table} (accepted : parseSbgp s room �
       covered-expand (t .rows) ∙ ap length (sym (samples-single (t .rows))) ∙ sym (coveredBy-samples (map single (t .rows)))
 
   -- the same through group_index_for_sample, over the front of the run that parse_sbgp wrote into
-  pub sbgp-lookup : (l : List ℕ) → length (t .rows) ≤ recordLimit → (k : ℕ) → lookup (take (2 * length (t .rows)) (filled tableRows (given t) l)) k ≡ given (indexOf (map single (t .rows)) k)
+  pub sbgp-lookup : (l : List ℕ) → length (t .rows) ≤ recordLimit → (k : ℕ) → lookup (take (recordNumbers * length (t .rows)) (filled tableRows (given t) l)) k ≡ given (indexOf (map single (t .rows)) k)
   sbgp-lookup l few k = lookup-front t l few k ∙ ap given (sbgp-index k)

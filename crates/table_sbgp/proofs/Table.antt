@@ -3,11 +3,11 @@ use mathlib.Core.Path.{_≡_, refl, ap, _∙_}
 use Prim.Native.Nat.{ℕ, zero, suc, _+_, _*_, _<_, _≤_}
 use native.Mathlib.Omega.{arith}
 use mathlib.Core.List.{List, [], _∷_, _++_}
-use lib.ListN.{length, drop, set, length-append}
+use lib.ListN.{length, drop, length-append}
 use borrow.Author.Tests.{lt-ltb, le-ltb}
 use Rattle.base_fields.specs.Answer.{refused}
 use Rattle.base_fields.specs.Number.{beAt}
-use Rattle.table_rows.specs.Row.{Row, flat, recordsIn}
+use Rattle.table_rows.specs.Row.{Row, recordNumbers, flat, recordsIn, putRow}
 use Rattle.table_rows.specs.Found.{GivesTable}
 use Rattle.table_rows.specs.declared.ParsedTable.the-variants as parsed
 use Rattle.table_rows.proofs.Rows.{front-put}
@@ -58,9 +58,8 @@ readRows-last (suc n) s p =
     rw d (ap (λ (l : List Row). rowAt s p ∷ l) (readRows-last n s (p + 8) ∙ rw e refl))
 
 -- the next row of the payload written behind those before it
-pub put-next : (s : List ℕ) (p n : ℕ) (l : List ℕ) → 2 * n + 1 < length l →
-    set (set (flat (readRows n s p) ++ drop (2 * n) l) (2 * n) (beAt 4 s (p + 8 * n))) (2 * n + 1) (beAt 4 s (p + 8 * n + 4))
-    ≡ flat (readRows (n + 1) s p) ++ drop (2 * (n + 1)) l
+pub put-next : (s : List ℕ) (p n : ℕ) (l : List ℕ) → n < recordsIn l →
+    putRow n (beAt 4 s (p + 8 * n)) (beAt 4 s (p + 8 * n + 4)) (flat (readRows n s p) ++ drop (recordNumbers * n) l) ≡ flat (readRows (n + 1) s p) ++ drop (recordNumbers * (n + 1)) l
 put-next s p n l h =
     let e = readRows-length n s p in
     let m : length (readRows n s p ++ (rowAt s (p + 8 * n) ∷ [])) ≡ n + 1 = simp (length-append, e) in
@@ -78,7 +77,7 @@ module _ (s before : List ℕ) where
         rw (l .table) (simp (e, lt-ltb _ _ b) (record { answer = refl; rows = refl }))
 
     pub room : (after : List ℕ) → h .«entry_count» ≤ recordsIn before →
-        after ≡ flat (readRows (h .«entry_count») s (h .first)) ++ drop (2 * h .«entry_count») before →
+        after ≡ flat (readRows (h .«entry_count») s (h .first)) ++ drop (recordNumbers * h .«entry_count») before →
         GivesTable (parseSbgp s (recordsIn before)) before after
         (parsed.Table
         (record {

@@ -3,7 +3,7 @@ ghost use mathlib.Core.Path.{_≡_};
 ghost use mathlib.Core.List.{_++_};
 ghost use Prim.Native.Nat.{_+_, _*_, _≤_};
 ghost use lib.ListN.{length, drop};
-ghost use Rattle.table_rows.specs.Row.{recordsIn, flat};
+ghost use Rattle.table_rows.specs.Row.{recordNumbers, recordsIn, flat};
 ghost use Rattle.table_rows.specs.Found.{GivesTable};
 ghost use Rattle.table_sbgp.specs.Sbgp.{readRows, parseSbgp};
 ghost use Rattle.table_sbgp.specs.Head.{GivesSbgp};
@@ -53,8 +53,8 @@ pub fn read_sbgp(s: &[u8]) -> ReadSbgp
 
 // Writes the rows from place `first` of the payload in front of the lent run.
 pub fn fill(s: &[u8], first: usize, count: usize, rows: &mut [RowNumber])
-    requires { ⌜ (first + 8 * count ≤ length (now s)) × (2 * count ≤ length (now rows)) ⌝ }
-    ensures { λ _. ⌜ now (rows .exit) ≡ flat (readRows count (now (s .entry)) first) ++ drop (2 * count) (now (rows .entry)) ⌝ }
+    requires { ⌜ (first + 8 * count ≤ length (now s)) × (recordNumbers * count ≤ length (now rows)) ⌝ }
+    ensures { λ _. ⌜ now (rows .exit) ≡ flat (readRows count (now (s .entry)) first) ++ drop (recordNumbers * count) (now (rows .entry)) ⌝ }
 {
     let mut k: usize = 0;
     while k < count {

@@ -1,17 +1,18 @@
 use mathlib.Core.Path.{_≡_, refl, ap, _∙_}
 use mathlib.Core.List.{_++_}
-use Prim.Native.Nat.{_+_, _-_, _*_, _≤_, _<_}
+use Prim.Native.Nat.{_-_, _*_, _≤_, _<_}
 use native.Mathlib.Omega.{arith}
-use lib.ListN.{length, drop, length-set}
+use lib.ListN.{length, drop}
 use borrow.Author.Needs.{needs}
-use Rattle.table_rows.specs.Row.{flat}
+use Rattle.table_rows.specs.Row.{recordNumbers, recordsIn, flat}
+use Rattle.table_rows.proofs.Rows.{put-length}
 use Rattle.table_sbgp.specs.Sbgp.{readRows}
 use Rattle.table_sbgp.proofs.Table.{put-next}
 use Rattle.table_sbgp.proofs.fill.Statement.{statement}
 use Rattle.table_sbgp.proofs.fill.Tie as tie
 
 abbrev Inv-loop : tie.InvT-loop
-Inv-loop s first count rows₀ k₀ rows k = (k ≤ count) × (length rows ≡ length rows₀) × (rows ≡ flat (readRows k s first) ++ drop (2 * k) rows₀)
+Inv-loop s first count rows₀ k₀ rows k = (k ≤ count) × (length rows ≡ length rows₀) × (rows ≡ flat (readRows k s first) ++ drop (recordNumbers * k) rows₀)
 
 abbrev μ-loop : tie.MeasureT-loop
 μ-loop s first count rows₀ k₀ rows k = count - k
@@ -49,10 +50,10 @@ loop-again c =
     let at-loop = c .before .before .before .before .before .before .before in
     let a = at-loop .before .before .before .args in
     let k = at-loop .loop .k in
-    let h : 2 * k + 1 < length (a .rows .now) = omega arith in
+    let h : k < recordsIn (a .rows .now) = omega arith in
     let q = c .before .before .put-row .ensures in (
       search needs,
-      ap length q ∙ simp length-set (at-loop .loop .inv .1),
+      ap length q ∙ put-length k _ _ _ ∙ at-loop .loop .inv .1,
       q ∙ rw (at-loop .loop .inv .2, c .before .before .before .before .before .read-u32 .ensures .0, c .before .before .before .before .read-u322 .ensures .0) (put-next (a .s .now) (a .first) k (a .rows .now) h),
     )
 

@@ -7,7 +7,7 @@ use borrow.Author.Needs.{needs}
 use mathlib.Core.List.{List}
 use lib.ListN.{length}
 use Rattle.base_fields.proofs.Answers.{refused-given}
-use Rattle.table_rows.specs.Row.{recordsIn}
+use Rattle.table_rows.specs.Row.{recordNumbers, recordsIn}
 use Rattle.table_patterns.specs.Place.{patternIn}
 use Rattle.table_replay.specs.Step.{NextRun, Steps, Refuses, GivesStep}
 use Rattle.table_replay.specs.declared.step.Stepped.{Stepped}
@@ -208,7 +208,7 @@ loop2-again c =
     let k = copying put in
     let g = going put in
     let i = in-pattern (turn g) .loop2 .inv in
-    let records = ap (λ (n : ℕ). n / 2) (put .put-row .kept .0 ∙ k .copy-rows .kept .0 ∙ same (in-pattern (turn g))) in
+    let records = ap (λ (n : ℕ). n / recordNumbers) (put .put-row .kept .0 ∙ k .copy-rows .kept .0 ∙ same (in-pattern (turn g))) in
     let w = rw records at (singly .write-singly .ensures) in (
       λ e v. w .keeps _ _ e (filling-step _ (i .0 e v) (goes g) (put .put-row .ensures ∙ rw (k .copy-rows .ensures) refl)),
       singly .write-singly .kept .1 .1 .1 .0 ∙ put .put-row .kept .0 ∙ k .copy-rows .kept .0 ∙ i .1,

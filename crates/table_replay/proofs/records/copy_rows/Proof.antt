@@ -2,8 +2,8 @@
 use mathlib.Core.Path.{_≡_, refl, ap, sym, _∙_}
 use Prim.Native.Nat.{_-_, _≤_, _<_}
 use native.Mathlib.Omega.{arith}
-use lib.ListN.{length, length-set}
-use Rattle.table_rows.proofs.RowAt.{row-at}
+use lib.ListN.{length}
+use Rattle.table_rows.proofs.Rows.{put-length}
 use Rattle.table_replay.specs.Records.{copied}
 use Rattle.table_replay.proofs.Copying.{copied-one, copied-end}
 use Rattle.table_replay.proofs.records.copy_rows.Statement.{statement}
@@ -55,12 +55,11 @@ loop-again c =
     let at-loop = turn .before in
     let own = at-loop .loop in
     let h = behind turn in
-    let row = row-at (own .rows) (own .i - 1) (omega arith) in
     let q = c .before .before .put-row .ensures in
-    let p = rw (c .before .before .before .before .before .before .count-at .ensures, c .before .before .before .before .description-at .ensures, row) at q in (
+    let p = rw (c .before .before .before .before .before .before .count-at .ensures, c .before .before .before .before .description-at .ensures) at q in (
       sym (copied-one (own .i) (own .j) (at-loop .before .before .args .end) (own .rows) (h .0) (h .1) (turn .loop-test .taken) p) ∙ own .inv .0,
       λ l. (omega arith, omega arith),
-      ap length q ∙ simp length-set (own .inv .2),
+      ap length q ∙ put-length _ _ _ _ ∙ own .inv .2,
     )
 
 same-length : tie.Need-same-length Inv-loop μ-loop

@@ -1,6 +1,8 @@
+use native.Mathlib.Numerals.{add-one}
 use native.Mathlib.Omega.{arith}
 use lib.ListN.{length-set}
 use borrow.Author.Needs.{needs}
+use Rattle.table_rows.specs.Row.{flat}
 use Rattle.table_rows.proofs.record.put_row.Statement.{statement}
 use Rattle.table_rows.proofs.record.put_row.Tie as tie
 
@@ -29,7 +31,8 @@ same-length : tie.Need-same-length
 same-length c = search needs
 
 returns : tie.Need-returns
-returns c = search needs
+unfolding flat
+returns c = rw add-one
 
 pub put-row-spec : {M : Type 1} → statement M
 put-row-spec =
