@@ -5,9 +5,9 @@ ghost use lib.ListN.{length};
 ghost use lib.Seq.{sets};
 ghost use Rattle.base_fields.specs.Answer.{inFront};
 ghost use Rattle.base_ids.specs.Limits.{recordLimit};
-ghost use Rattle.table_rows.specs.Row.{rowsOf, flat, recordsIn};
+ghost use Rattle.table_rows.specs.Row.{rowsOf, recordsIn};
 ghost use Rattle.table_writing.specs.Bodies.{sbgpBytes};
-ghost use Rattle.table_writers.specs.Words.{words};
+ghost use Rattle.table_writers.specs.Words.{words, rowWords};
 use super::words::put_head;
 use super::words::put_word;
 use base_ids::RowNumber;
@@ -18,7 +18,7 @@ use table_rows::record::record_count;
 // The rows as given, behind the twelve bytes.
 fn put_rows(rows: &[RowNumber], out: &mut [u8])
     requires { ⌜ (recordsIn (now rows) ≤ recordLimit) × (12 + 8 * recordsIn (now rows) ≤ length (now out)) ⌝ }
-    ensures { λ _. ⌜ now (out .exit) ≡ sets (now (out .entry)) 12 (words (flat (rowsOf (now (rows .entry))))) ⌝ }
+    ensures { λ _. ⌜ now (out .exit) ≡ sets (now (out .entry)) 12 (words (rowWords (rowsOf (now (rows .entry))))) ⌝ }
 {
     let records = record_count(rows);
     let mut k: usize = 0;

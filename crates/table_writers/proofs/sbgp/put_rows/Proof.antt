@@ -5,9 +5,9 @@ use native.Mathlib.Omega.{arith}
 use borrow.Author.Needs.{needs}
 use lib.ListN.{length, getD, drop}
 use lib.Seq.{sets, length-sets}
-use Rattle.table_rows.specs.Row.{rowsOf, recordsIn, noRow, flat}
+use Rattle.table_rows.specs.Row.{rowsOf, recordsIn, noRow}
 use Rattle.table_rows.proofs.RowAt.{rows-length}
-use Rattle.table_writers.specs.Words.{word, words}
+use Rattle.table_writers.specs.Words.{word, words, rowWords}
 use Rattle.table_writers.proofs.Bytes.{words-row, words-end}
 use Rattle.table_writers.proofs.sbgp.put_rows.Statement.{statement}
 use Rattle.table_writers.proofs.sbgp.put_rows.Tie as tie
@@ -15,7 +15,7 @@ use Rattle.table_writers.proofs.sbgp.put_rows.Tie as tie
 abbrev Inv-loop : tie.InvT-loop
 Inv-loop rows out₀ records k₀ out k =
     (k ≤ records) × (records ≡ recordsIn rows) × (length out ≡ length out₀)
-    × (sets out (12 + 8 * k) (words (flat (drop k (rowsOf rows)))) ≡ sets out₀ 12 (words (flat (rowsOf rows))))
+    × (sets out (12 + 8 * k) (words (rowWords (drop k (rowsOf rows)))) ≡ sets out₀ 12 (words (rowWords (rowsOf rows))))
 
 abbrev μ-loop : tie.MeasureT-loop
 μ-loop rows out₀ records k₀ out k = records - k
