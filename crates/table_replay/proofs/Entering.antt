@@ -12,7 +12,8 @@ use Rattle.base_fields.specs.Answer.{Answer, given, none, refused, choose}
 use Rattle.table_rows.specs.Row.{Row}
 use Rattle.base_ids.specs.Limits.{countLimit}
 use Rattle.table_replay.specs.Replay.{replay}
-use Rattle.table_replay.proofs.Replay.{either, Begins, replay-join, replay-over, replay-begin, replay-no-room}
+use Rattle.table_rows.proofs.Choice.{either}
+use Rattle.table_replay.proofs.Replay.{Begins, replay-join, replay-over, replay-begin, replay-no-room}
 use Rattle.table_replay.specs.Enter.{tailOf, enterRun, joinRun, beginRun}
 use Rattle.table_replay.specs.declared.enter.Tail.{Tail}
 

@@ -2,6 +2,7 @@ pub mod Entering
 pub mod Passing
 pub mod Copying
 pub mod Replay
+pub mod Longest
 pub mod Repeating
 pub mod Stepping
 pub mod Within

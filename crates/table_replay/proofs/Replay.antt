@@ -1,6 +1,5 @@
 -- The replay (document 01, part 4): what runs of one index do to the rows, and that the rows tell each sample's index.
 use mathlib.Core.Path.{_≡_, refl, sym, _∙_}
-use mathlib.Core.Bool.{Bool, true, false}
 use Prim.Native.Nat.{ℕ, zero, suc, _+_, _≤_, _<_}
 use native.Mathlib.Nat.{add-zero}
 use native.Mathlib.Decide.{decLt, ℕ-discrete}
@@ -9,12 +8,13 @@ use borrow.Author.Tests.{eq-eqb, ne-eqb, le-leb, lt-leb, eqb-true, leb-false}
 use mathlib.Core.List.{List, [], _∷_, _++_, reverse, append-nil, append-assoc, reverse-cons}
 use lib.Dec.{leb, eqb}
 use lib.ListN.{length, replicate, replicate-append-replicate}
-use Rattle.base_fields.specs.Answer.{Answer, given, none, refused, choose, andThen}
+use Rattle.base_fields.specs.Answer.{Answer, given, none, refused, andThen}
 use Rattle.base_fields.proofs.Answers.{andThen-assoc}
 use Rattle.table_rows.specs.Row.{Row, expand, covered, indexAt}
 use Rattle.table_rows.specs.Pattern.{Pattern, samplesOf, coveredBy, indexOf}
 use Rattle.base_ids.specs.Limits.{countLimit}
 use Rattle.table_replay.specs.Replay.{enter, replay}
+use Rattle.table_rows.proofs.Choice.{either}
 use Rattle.table_rows.proofs.Samples.{indexAt-expand, covered-expand, expand-append, coveredBy-samples, indexOf-samples}
 
 pub replay-append : (room : ℕ) (rows : List Row) (xs ys : List ℕ) → replay room rows (xs ++ ys) ≡ andThen (replay room rows xs) (λ r. replay room r ys)
@@ -111,11 +111,6 @@ abbrev Told : ℕ → List Row → List ℕ → Answer (List Row) → Type 0
 Told room rows is (given out) = Entered room rows is out
 Told room rows is none = ⊥
 Told room rows is (refused n) = Unit
-
--- both ways of a choice
-pub either : {A : Type 0} (P : A → Type 0) (b : Bool) {x y : A} → (b ≡ true → P x) → (b ≡ false → P y) → P (choose b x y)
-either P true t f = t refl
-either P false t f = f refl
 
 expand-last : (r : Row) (rs : List Row) → expand (reverse (r ∷ rs)) ≡ expand (reverse rs) ++ replicate (r .count) (r .index)
 unfolding expand
