@@ -4,3 +4,5 @@ pub mod Bits
 pub mod Numbered
 pub mod Records
 pub mod Firm
+pub mod Agree
+pub mod Both

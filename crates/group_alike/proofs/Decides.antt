@@ -17,7 +17,8 @@ use Rattle.group_entries.proofs.Extent.{rashAt, alstAt, single, several}
 use Rattle.group_alike.specs.Front.{Over, Agree, frontSize}
 use Rattle.group_entries.specs.declared.EntryLayout.{EntryLayout}
 use Rattle.group_entries.specs.declared.EntryLayout.the-variants.{Roll, Rap, Tele, Sap, Rash, Alst, Raw}
-use Rattle.group_alike.proofs.Over.{over-of-be, be-of-over, each-of-upTo, upTo-of-each}
+use Rattle.base_fields.proofs.Agree.{be-of-bytes, bytes-of-be}
+use Rattle.group_alike.proofs.Over.{each-of-upTo, upTo-of-each}
 use Rattle.group_entries.proofs.Values.{valueOf, Sized}
 
 signed16-one : (x y : ℕ) → x < 65536 → y < 65536 → signed16 x ≡ signed16 y → x ≡ y
@@ -62,14 +63,14 @@ points-over a b ba bb n each i h l =
       | yes one ↦
           let m = simp (eq-eqb _ _ one) at l in
           let p = sym (single a 0 one) ∙ each 0 (omega arith) ∙ single b 0 (sym n ∙ one) in
-          over-of-be 2 a b 2 ba bb (ap (λ (q : Point). q .share) p) i h m
+          bytes-of-be 2 a b 2 ba bb (ap (λ (q : Point). q .share) p) i h m
       | no more ↦
           let m = simp (ne-eqb _ _ more) at l in
           let k = (i - 2) / 6 in
           let p = sym (several a k more) ∙ each k (omega arith) ∙ several b k (λ e. more (n ∙ e)) in
           elim (decLt i (6 + 6 * k)) [
-            | yes q ↦ over-of-be 4 a b (2 + 6 * k) ba bb (ap (λ (q : Point). q .bitrate) p) i (omega arith) (omega arith)
-            | no q ↦ over-of-be 2 a b (6 + 6 * k) ba bb (ap (λ (q : Point). q .share) p) i (omega arith) (omega arith)
+            | yes q ↦ bytes-of-be 4 a b (2 + 6 * k) ba bb (ap (λ (q : Point). q .bitrate) p) i (omega arith) (omega arith)
+            | no q ↦ bytes-of-be 2 a b (6 + 6 * k) ba bb (ap (λ (q : Point). q .share) p) i (omega arith) (omega arith)
           ]
     ]
 
@@ -80,15 +81,15 @@ rash-agree a b ba bb e =
     let n : pointCount a ≡ pointCount b = ap (λ (v : RashFields). v .points) r in
     let end : pointsEnd a ≡ pointsEnd b = ap (λ (m : ℕ). choose (eqb m 1) 4 (2 + 6 * m)) n in
     let each = each-of-upTo (pointAt a) (pointAt b) 0 (pointCount a) (l ∙ ap (upTo (pointAt b) 0) (sym n)) in
-    let field : (w d : ℕ) → beAt w a (pointsEnd a + d) ≡ beAt w b (pointsEnd b + d) → Over a b (pointsEnd a + d) w = λ w d q. over-of-be w a b (pointsEnd a + d) ba bb (q ∙ ap (λ (m : ℕ). beAt w b (m + d)) (sym end)) in (
+    let field : (w d : ℕ) → beAt w a (pointsEnd a + d) ≡ beAt w b (pointsEnd b + d) → Over a b (pointsEnd a + d) w = λ w d q. bytes-of-be w a b (pointsEnd a + d) ba bb (q ∙ ap (λ (m : ℕ). beAt w b (m + d)) (sym end)) in (
       end,
       λ i h.
           elim (decLt i 2) [
-            | yes p ↦ over-of-be 2 a b 0 ba bb n i zero-le (omega arith)
+            | yes p ↦ bytes-of-be 2 a b 0 ba bb n i zero-le (omega arith)
             | no p ↦ elim (decLt i (pointsEnd a)) [
               | yes q ↦ points-over a b ba bb n (λ j k. each j zero-le (omega arith)) i (omega arith) q
               | no q ↦ elim (decLt i (pointsEnd a + 4)) [
-                | yes u ↦ over-of-be 4 a b (pointsEnd a) ba bb (ap (λ (v : RashFields). v .maximum) r ∙ ap (beAt 4 b) (sym end)) i (omega arith) (omega arith)
+                | yes u ↦ bytes-of-be 4 a b (pointsEnd a) ba bb (ap (λ (v : RashFields). v .maximum) r ∙ ap (beAt 4 b) (sym end)) i (omega arith) (omega arith)
                 | no u ↦ elim (decLt i (pointsEnd a + 8)) [
                   | yes v ↦ field 4 4 (ap (λ (v : RashFields). v .minimum) r) i (omega arith) (omega arith)
                   | no v ↦ field 1 8 (ap (λ (v : RashFields). v .priority) r) i (omega arith) (omega arith)
@@ -100,7 +101,7 @@ rash-agree a b ba bb e =
 
 rash-value : (a b : List ℕ) → pointsEnd a ≡ pointsEnd b → ((i : ℕ) → i < pointsEnd a + 9 → getD a i 0 ≡ getD b i 0) → valueOf Rash a ≡ valueOf Rash b
 rash-value a b end o =
-    let field : (w p : ℕ) → p + w ≤ pointsEnd a + 9 → beAt w a p ≡ beAt w b p = λ w p h. be-of-over w a b p (λ i k l. o i (omega arith)) in
+    let field : (w p : ℕ) → p + w ≤ pointsEnd a + 9 → beAt w a p ≡ beAt w b p = λ w p h. be-of-bytes w a b p (λ i k l. o i (omega arith)) in
     let n : pointCount a ≡ pointCount b = field 2 0 (omega arith) in
     let each : (j : ℕ) → 0 ≤ j → j < 0 + pointCount a → pointAt a j ≡ pointAt b j = λ j k l.
     elim (ℕ-discrete (pointCount a) 1) [
@@ -128,18 +129,18 @@ alst-agree a b ba bb sa sb e =
       omega arith,
       λ i h.
           elim (decLt i 2) [
-            | yes p ↦ over-of-be 2 a b 0 ba bb m i zero-le (omega arith)
+            | yes p ↦ bytes-of-be 2 a b 0 ba bb m i zero-le (omega arith)
             | no p ↦ elim (decLt i 4) [
-              | yes q ↦ over-of-be 2 a b 2 ba bb (ap (λ (v : AlstFields). v .firstOutput) r) i (omega arith) q
+              | yes q ↦ bytes-of-be 2 a b 2 ba bb (ap (λ (v : AlstFields). v .firstOutput) r) i (omega arith) q
               | no q ↦ elim (decLt i (offsetsEnd a)) [
-                | yes u ↦ let k = (i - 4) / 4 in over-of-be 4 a b (4 + 4 * k) ba bb (offsets k zero-le (omega arith)) i (omega arith) (omega arith)
+                | yes u ↦ let k = (i - 4) / 4 in bytes-of-be 4 a b (4 + 4 * k) ba bb (offsets k zero-le (omega arith)) i (omega arith) (omega arith)
                 | no u ↦
                     let k = (i - offsetsEnd a) / 4 in
                     let f : pairAt a k ≡ pairAt b k = pairs k zero-le (omega arith) in
                     let g : offsetsEnd b ≡ offsetsEnd a = omega arith in
                     elim (decLt i (offsetsEnd a + 4 * k + 2)) [
-                      | yes v ↦ over-of-be 2 a b (offsetsEnd a + 4 * k) ba bb (ap (λ (v : OutputPair). v .output) f ∙ ap (λ (o : ℕ). beAt 2 b (o + 4 * k)) g) i (omega arith) (omega arith)
-                      | no v ↦ over-of-be 2 a b (offsetsEnd a + 4 * k + 2) ba bb (ap (λ (v : OutputPair). v .total) f ∙ ap (λ (o : ℕ). beAt 2 b (o + 4 * k + 2)) g) i (omega arith) (omega arith)
+                      | yes v ↦ bytes-of-be 2 a b (offsetsEnd a + 4 * k) ba bb (ap (λ (v : OutputPair). v .output) f ∙ ap (λ (o : ℕ). beAt 2 b (o + 4 * k)) g) i (omega arith) (omega arith)
+                      | no v ↦ bytes-of-be 2 a b (offsetsEnd a + 4 * k + 2) ba bb (ap (λ (v : OutputPair). v .total) f ∙ ap (λ (o : ℕ). beAt 2 b (o + 4 * k + 2)) g) i (omega arith) (omega arith)
                     ]
               ]
             ]
@@ -171,7 +172,7 @@ pub agree-of-value : (l : EntryLayout) (a b : List ℕ) → Bytes a → Bytes b 
     → (frontSize l a ≡ frontSize l b) × Agree l a b (frontSize l a)
 agree-of-value Roll a b ba bb sa sb e =
     let s : signed16 (beAt 2 a 0) ≡ signed16 (beAt 2 b 0) = cc in
-    (refl, λ i h. over-of-be 2 a b 0 ba bb (signed16-one _ _ (beAt-below 2 a 0 ba) (beAt-below 2 b 0 bb) s) i zero-le (omega arith))
+    (refl, λ i h. bytes-of-be 2 a b 0 ba bb (signed16-one _ _ (beAt-below 2 a 0 ba) (beAt-below 2 b 0 bb) s) i zero-le (omega arith))
 agree-of-value Rap a b ba bb sa sb e =
     let v = rap-fields e in
     let h = top a b ba bb (ap (λ (r : RapFields). r .known) v) in
@@ -188,7 +189,7 @@ agree-of-value Alst a b ba bb sa sb e = alst-agree a b ba bb sa sb e
 agree-of-value Raw a b ba bb sa sb e = let s : a ≡ b = cc in rw s (refl, λ i h. refl)
 
 pub value-of-agree : (l : EntryLayout) (a b : List ℕ) → Bytes a → Bytes b → frontSize l a ≡ frontSize l b → Agree l a b (frontSize l a) → valueOf l a ≡ valueOf l b
-value-of-agree Roll a b ba bb f o = rw (be-of-over 2 a b 0 (λ i h l. o i (omega arith))) refl
+value-of-agree Roll a b ba bb f o = rw (be-of-bytes 2 a b 0 (λ i h l. o i (omega arith))) refl
 value-of-agree Rap a b ba bb f o = let e = first-at a b (λ n. n) o in rw e refl
 value-of-agree Tele a b ba bb f o = ap teleOf (bit a b ba bb (first-at a b (λ n. n / 128) o))
 value-of-agree Sap a b ba bb f o =

@@ -1,10 +1,9 @@
--- Two entries agree over a field's bytes exactly where the field's numbers are equal: laws over the place and the width.
+-- Two entries that agree over bytes, and numbers of them: laws over the place and the width (for the highest byte first, base_fields' Agree).
 use mathlib.Core.Path.{_≡_, refl}
 use Prim.Native.Nat.{ℕ, zero, suc, _+_, _<_, _≤_}
 use native.Mathlib.Decide.{decLt}
 use native.Mathlib.Omega.{arith}
 use mathlib.Core.List.{List}
-use lib.ListN.{getD}
 use Rattle.base_fields.specs.Number.{beAt}
 use Rattle.base_fields.proofs.Bits.{Bytes}
 use Rattle.base_fields.proofs.Bytes.{beAt-one}
@@ -19,26 +18,7 @@ over-join a b p v w o u i h l =
       | no m ↦ u i (omega arith) (omega arith)
     ]
 
-pub over-of-be : (w : ℕ) (a b : List ℕ) (p : ℕ) → Bytes a → Bytes b → beAt w a p ≡ beAt w b p → Over a b p w
-unfolding beAt
-over-of-be zero a b p ba bb e i h l = absurd (omega arith)
-over-of-be (suc w) a b p ba bb e i h l =
-    let high : beAt w a p ≡ beAt w b p = omega (arith, ba (p + w), bb (p + w)) in
-    let low : getD a (p + w) 0 ≡ getD b (p + w) 0 = omega (arith, ba (p + w), bb (p + w)) in
-    elim (decLt i (p + w)) [
-      | yes m ↦ over-of-be w a b p ba bb high i h m
-      | no m ↦ let q : i ≡ p + w = omega arith in rw q low
-    ]
-
-pub be-of-over : (w : ℕ) (a b : List ℕ) (p : ℕ) → Over a b p w → beAt w a p ≡ beAt w b p
-unfolding beAt
-be-of-over zero a b p o = refl
-be-of-over (suc w) a b p o =
-    let high = be-of-over w a b p (λ i h l. o i h (omega arith)) in
-    let low = o (p + w) (omega arith) (omega arith) in
-    rw (high, low) refl
-
--- the same for the lowest byte first
+-- the numbers of fields with the lowest byte first are equal exactly where their bytes are
 pub over-of-low : (w : ℕ) (a b : List ℕ) (p k : ℕ) → Bytes a → Bytes b → lowFirst w a p k ≡ lowFirst w b p k → Over a b (p + k) w
 unfolding lowFirst
 over-of-low zero a b p k ba bb e i h l = absurd (omega arith)

@@ -5,7 +5,7 @@ use native.Mathlib.Decide.{decLt}
 use native.Mathlib.Omega.{arith}
 use borrow.Author.Tests.{eqb-true, eqb-false}
 use Rattle.base_fields.proofs.Bits.{Bytes}
-use Rattle.group_alike.proofs.Over.{over-of-be, be-of-over}
+use Rattle.base_fields.proofs.Agree.{be-of-bytes, bytes-of-be}
 use borrow.Author.Needs.{needs}
 use Rattle.group_alike.proofs.same_fours.Statement.{statement}
 use Rattle.group_alike.proofs.same_fours.Tie as tie
@@ -22,7 +22,7 @@ returns c =
     let first = second .before in
     record {
       same = λ e. let z : _≡_ {A = ℕ} 0 1 = cc in absurd (omega arith);
-      different = λ e o. c .if1 .taken (first .read-u32 .ensures .0 ∙ be-of-over 4 _ _ 0 (λ k h l. o k h (omega arith)) ∙ sym (second .read-u322 .ensures .0));
+      different = λ e o. c .if1 .taken (first .read-u32 .ensures .0 ∙ be-of-bytes 4 _ _ 0 (λ k h l. o k h (omega arith)) ∙ sym (second .read-u322 .ensures .0));
     }
 
 sub-read-u32 : tie.Need-sub-read-u32
@@ -50,13 +50,13 @@ returns-2 c =
     let n = s .n in
     let bytes-a : Bytes a = λ k. known-a .shared-slice-known .given k .fits in
     let bytes-b : Bytes b = λ k. known-b .shared-slice-known2 .given k .fits in
-    let front = over-of-be 4 a b 0 bytes-a bytes-b (sym (first .read-u32 .ensures .0) ∙ third .before .if1 .left ∙ second .read-u322 .ensures .0) in
+    let front = bytes-of-be 4 a b 0 bytes-a bytes-b (sym (first .read-u32 .ensures .0) ∙ third .before .if1 .left ∙ second .read-u322 .ensures .0) in
     record {
       same = λ e k h l. elim (decLt k 4) [
         | yes m ↦ front k h m
-        | no m ↦ over-of-be 4 a b (n - 4) bytes-a bytes-b (sym (third .read-u323 .ensures .0) ∙ eqb-true _ _ e ∙ c .read-u324 .ensures .0) k (omega arith) (omega arith)
+        | no m ↦ bytes-of-be 4 a b (n - 4) bytes-a bytes-b (sym (third .read-u323 .ensures .0) ∙ eqb-true _ _ e ∙ c .read-u324 .ensures .0) k (omega arith) (omega arith)
       ];
-      different = λ e o. eqb-false _ _ e (third .read-u323 .ensures .0 ∙ be-of-over 4 a b (n - 4) (λ k h l. o k zero-le (omega arith)) ∙ sym (c .read-u324 .ensures .0));
+      different = λ e o. eqb-false _ _ e (third .read-u323 .ensures .0 ∙ be-of-bytes 4 a b (n - 4) (λ k h l. o k zero-le (omega arith)) ∙ sym (c .read-u324 .ensures .0));
     }
 
 pub same-fours-spec : {M : Type 1} → statement M
