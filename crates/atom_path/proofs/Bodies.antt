@@ -12,11 +12,10 @@ use Rattle.base_fields.specs.Answer as answer
 use Rattle.base_fields.specs.Answer.{Answer, given, refused, choose, andThen, inputLimit}
 use Rattle.base_fields.specs.Span.{Span}
 use Rattle.base_fields.proofs.Answers.{Holds, given-inj, given-first, given-past, holds-given, holds-andThen, holds-refuseIf, andThen-same, andThen-assoc}
-use Rattle.atom_tree.specs.Atom.{Known, Header, Child, headerAt, childAt, orDone}
+use Rattle.atom_tree.specs.Atom.{Known, Child, headerAt, childAt, orDone}
 use Rattle.atom_tree.proofs.Onward.{Eight, header-there, child-onward, child-fewer, orDone-same}
 use Rattle.atom_path.specs.Path.{Level, endIn, atomAt, bodySpan, bodiesIn, bodiesFrom, spanNumber, presentAt, atLevel, descend, path, stblAt}
 use Rattle.atom_path.specs.declared.level.Sought.{Sought}
-use Rattle.atom_path.specs.declared.level.Sought.the-variants as sought
 use Rattle.atom_path.specs.Told.{soughtIn}
 
 -- an atom at the top leaves fewer bytes

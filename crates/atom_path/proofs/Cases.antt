@@ -1,6 +1,6 @@
 -- The answers of the level's steps, case by case, from what the code's tests tell.
-use mathlib.Core.Path.{_≡_, refl, ap, sym, _∙_}
-use mathlib.Core.Bool.{Bool, true, false}
+use mathlib.Core.Path.{_≡_, refl, sym, _∙_}
+use mathlib.Core.Bool.{Bool, true}
 use mathlib.Core.List.{List, _∷_}
 use Prim.Native.Nat.{ℕ, zero, suc, _+_, _-_, _<_, _≤_}
 use native.Mathlib.Omega.{arith}
@@ -8,7 +8,7 @@ use lib.Dec.{eqb}
 use lib.ListN.{length}
 use borrow.Author.Tests.{lt-ltb, le-ltb, eq-eqb, ne-eqb, eqb-true}
 use Rattle.base_fields.specs.Answer as answer
-use Rattle.base_fields.specs.Answer.{Answer, given, refused, choose, inputLimit, andThen, within}
+use Rattle.base_fields.specs.Answer.{Answer, given, refused, choose, inputLimit}
 use Rattle.base_fields.specs.Span.{Span}
 use Rattle.atom_tree.specs.Atom.{Header, Child, headerAt}
 use Rattle.atom_path.specs.Told.{levelsLeft}

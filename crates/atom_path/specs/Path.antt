@@ -8,7 +8,7 @@ use lib.ListN.{length}
 use Rattle.base_fields.specs.Answer as answer
 use Rattle.base_fields.specs.Answer.{Answer, given, refused, choose, refuseIf, andThen, within}
 use Rattle.base_fields.specs.Span.{Span}
-use Rattle.atom_tree.specs.Atom.{Known, Header, Child, headerAt, childAt, orDone}
+use Rattle.atom_tree.specs.Atom.{Known, Child, headerAt, childAt, orDone}
 
 -- a level of the path: the type that is looked for, which atom of that type (from 0), the refusal where it is missing, and whether the level is the top
 pub record Level : Type 0 where

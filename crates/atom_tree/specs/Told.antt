@@ -1,5 +1,4 @@
 -- Document 01's answer for each case of the enums of src/.
-use Prim.Native.Nat.{ℕ}
 use mathlib.Core.Option.{none, some}
 use Rattle.base_fields.specs.Answer as answer
 use Rattle.base_fields.specs.Answer.{Answer, given, refused}

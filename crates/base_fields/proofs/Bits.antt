@@ -1,12 +1,11 @@
 -- A field of bits is a digit of the big-endian number around it: laws over the field's place and width.
 use mathlib.Core.Path.{_≡_, refl, ap, sym, _∙_}
 use Prim.Native.Nat.{ℕ, zero, suc, _+_, _-_, _*_, _/_, _%_, _^_, _<_, _≤_}
-use native.Mathlib.Nat.{add-zero, add-suc, add-assoc, mul-assoc, pow-suc, mul-add-div-right, mod-one, div-one, one-mul, mod-eq-of-lt}
+use native.Mathlib.Nat.{add-zero, add-assoc, mul-assoc, pow-suc, mul-add-div-right, mod-one, div-one, one-mul, mod-eq-of-lt}
 use native.Mathlib.Decide.{decLt}
 use native.Mathlib.Numerals.{add-one}
 use native.Mathlib.Omega.{arith}
 use mathlib.Core.List.{List}
-use mathlib.Core.Logic.{⊎-elim}
 use lib.ListN.{getD}
 use lib.Pow.{pow-add, pow-pos, pow-lt, shr-shr, mod-pow-add}
 use Rattle.base_fields.specs.Number.{beAt, bitAt, bitsAt}

@@ -1,6 +1,6 @@
 -- Laws of big-endian numbers, over the width.
-use mathlib.Core.Path.{_≡_, refl, ap, sym, _∙_}
-use Prim.Native.Nat.{ℕ, zero, suc, _+_, _*_, _^_, _<_}
+use mathlib.Core.Path.{_≡_}
+use Prim.Native.Nat.{ℕ, zero, suc, _+_, _*_, _^_}
 use native.Mathlib.Nat.{add-zero, add-suc, add-assoc, mul-assoc, pow-suc}
 use native.Mathlib.Omega.{arith}
 use mathlib.Core.List.{List}

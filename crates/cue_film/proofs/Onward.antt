@@ -6,8 +6,8 @@ use mathlib.Core.Option.{none, some}
 use Prim.Native.Nat.{ℕ, _+_, _≤_}
 use borrow.Author.Tests.{ltb-false}
 use Rattle.base_fields.specs.Answer.{given}
-use Rattle.base_fields.proofs.Answers.{Holds, holds-refuseIf, holds-andThen, holds-given}
-use Rattle.atom_tree.specs.Atom.{Known, Header, lastPlace, headerAt, farEnd}
+use Rattle.base_fields.proofs.Answers.{holds-refuseIf, holds-andThen, holds-given}
+use Rattle.atom_tree.specs.Atom.{Known, lastPlace, headerAt, farEnd}
 use Rattle.atom_tree.proofs.Onward.{Eight, header-there}
 use Rattle.cue_film.specs.TopAtoms.{Top, placedAt, topAt}
 

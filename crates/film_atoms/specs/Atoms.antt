@@ -1,7 +1,7 @@
 -- The numbers of a header and a child, in the order in which the C interface hands them out.
 use Prim.Native.Nat.{ℕ}
-use mathlib.Core.List.{List, [], _∷_, _++_}
-use mathlib.Core.Option.{Option, none, some}
+use mathlib.Core.List.{List, [], _∷_}
+use mathlib.Core.Option.{none, some}
 use lib.Dec.{eqb}
 use Rattle.base_fields.specs.Answer.{choose}
 use Rattle.atom_tree.specs.Atom.{Known, Header, Child}

@@ -1,6 +1,5 @@
 // The C interface: the stbl of a track of a film, the cue listing of an stbl's body, and that of a track.
 ghost use Rattle.atom_path.specs.Path.{stblAt};
-ghost use Rattle.atom_path.specs.Told.{toldBody};
 ghost use Rattle.listing_spec.specs.Cue.{cueCall};
 ghost use Rattle.listing_cue.specs.Told.{toldCue};
 ghost use Rattle.listing_file.specs.File.{fileCall};

@@ -1,7 +1,6 @@
 // The C interface: sample tables, their rows in a lent run of u32 (a count and an index each), and lookups over such a run.
-ghost use mathlib.Core.Path.{_≡_};
 ghost use Rattle.table_rows.specs.Row.{recordsIn, lookup, total};
-ghost use Rattle.table_rows.specs.Found.{toldIndex, toldCovered, toldTable};
+ghost use Rattle.table_rows.specs.Found.{toldTable};
 ghost use Rattle.table_sbgp.specs.Sbgp.{parseSbgp};
 ghost use Rattle.table_csgp.specs.Table.{parseCsgp};
 ghost use Rattle.table_needed.specs.Needed.{rowsNeeded, toldNeeded};

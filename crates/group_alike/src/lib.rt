@@ -14,7 +14,7 @@ ghost use Prim.Native.Nat.{ℕ, _+_, _≤_};
 ghost use lib.Dec.{eqb};
 ghost use lib.ListN.{length};
 ghost use Rattle.base_fields.specs.Answer.{given, andThen, inputLimit};
-ghost use Rattle.group_alike.specs.Front.{AllBytes, lowFirst, significantOf, GivesSame, ZeroWhereSame, Short, alikeAs, LeftOf, FrontIs, frontSize, toldFrontSize, toldLikeness};
+ghost use Rattle.group_alike.specs.Front.{AllBytes, lowFirst, significantOf, GivesSame, ZeroWhereSame, Short, LeftOf, FrontIs, frontSize, toldFrontSize, toldLikeness};
 ghost use Rattle.group_entries.specs.Layout.{decodeAs};
 ghost use Rattle.group_entries.specs.declared.EntryLayout.the-variants.{Roll, Rash, Alst};
 ghost use Rattle.group_alike.specs.Alike.{toldAlike, alike};

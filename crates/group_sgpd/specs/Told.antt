@@ -1,5 +1,4 @@
 -- Document 01's answer for each case of the enums of src/.
-use Prim.Native.Nat.{ℕ}
 use Rattle.base_fields.specs.Answer.{Answer, given, none, refused}
 use Rattle.group_sgpd.specs.Sgpd.{Description}
 use Rattle.base_fields.specs.Span.{Span}

@@ -5,11 +5,11 @@
 --
 -- Nothing is assumed but what the contract of cue_listing promises of each call (`GivesCue`), and that bytes are below 256 and types below 2^32, which
 -- u8 and u32 are.
-use mathlib.Core.Path.{_≡_, sym, _∙_, ap}
+use mathlib.Core.Path.{_≡_, sym}
 use mathlib.Core.Logic.{_↔_}
 use mathlib.Core.List.{List}
 use Prim.Native.Nat.{ℕ, _<_}
-use lib.ListN.{length, take}
+use lib.ListN.{take}
 use Rattle.base_fields.proofs.Bits.{Bytes}
 use Rattle.listing_spec.specs.Cue.{cueCall}
 use Rattle.listing_spec.specs.Meanings.{SameMeanings}

@@ -5,7 +5,7 @@ use Prim.Native.Nat.{ℕ, _≤_}
 use native.Mathlib.Omega.{arith}
 use lib.ListN.{length}
 use Rattle.base_fields.specs.Answer.{Answer, given, none, refused}
-use Rattle.base_fields.proofs.Answers.{given-inj, refused-given}
+use Rattle.base_fields.proofs.Answers.{given-inj}
 use Rattle.table_rows.specs.Row.{recordsIn}
 use Rattle.listing_spec.specs.Cue.{Cue, Lengths, cueCall, reported}
 use Rattle.listing_spec.proofs.After.{bytes-fit}

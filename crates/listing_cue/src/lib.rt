@@ -2,6 +2,7 @@
 mod write;
 
 use base_fields::bytes_at;
+use base_ids::RECORD_NUMBERS;
 use base_ids::RowNumber;
 use group_sgpd::SgpdHead;
 use group_sgpd::entry_marks;
@@ -74,7 +75,7 @@ fn list_samples(
         MeasuredListing::Over => return CueListing::Refused(54),
     };
     write_rows(table_s, table, rows);
-    let end = 2 * count;
+    let end = RECORD_NUMBERS * count;
     write_listing(grouping_type, s, head, &marks, &rows[..end], samples, out);
     CueListing::Listing(CueLengths {
         listing,
@@ -91,7 +92,7 @@ pub fn cue_listing(
 ) -> CueListing
     ensures { λ r. ⌜ GivesCue (cueCall (now (body .entry)) «grouping_type» (now (rows .entry)) (now (out .entry))) (now (rows .entry)) (now (rows .exit)) (now (out .entry)) (now (out .exit)) r ⌝ }
 {
-    let lent = rows.len() / 2;
+    let lent = rows.len() / RECORD_NUMBERS;
     let group = match open_group(body, grouping_type, Records::Lent(lent)) {
         OpenGroup::Group(g) => g,
         OpenGroup::Refused(n) => return CueListing::Refused(n),

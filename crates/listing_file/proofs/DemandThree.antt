@@ -4,19 +4,18 @@
 -- has the same meaning in both.
 --
 -- Nothing is assumed but what the contract of file_cue_listing promises of each call, and that bytes are below 256 and types below 2^32.
-use mathlib.Core.Path.{_≡_, refl, ap, sym, _∙_}
+use mathlib.Core.Path.{_≡_, refl, _∙_}
 use mathlib.Core.Logic.{_↔_}
 use mathlib.Core.List.{List}
 use Prim.Native.Nat.{ℕ, _<_}
 use native.Mathlib.Omega.{arith}
-use lib.ListN.{length, take}
+use lib.ListN.{take}
 use Rattle.base_fields.specs.Answer as answer
 use Rattle.base_fields.specs.Answer.{Answer, given, refused}
 use Rattle.base_fields.specs.Span.{Span, bytesAt, partOf}
 use Rattle.base_fields.proofs.Bits.{Bytes}
 use Rattle.atom_path.specs.Path.{stblAt}
 use Rattle.listing_theorem.proofs.Samples.{part-bytes}
-use Rattle.listing_spec.specs.Cue.{Cue, cueCall}
 use Rattle.listing_spec.specs.Meanings.{SameMeanings}
 use Rattle.listing_cue.specs.Told.{GivesCue}
 use Rattle.listing_cue.specs.declared.CueLengths.{CueLengths}

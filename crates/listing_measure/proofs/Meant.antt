@@ -1,19 +1,19 @@
 -- The meanings of a table's samples, once all of them decode: by the meaning of each index.
-use mathlib.Core.Path.{_≡_, refl, ap, sym, _∙_}
-use mathlib.Core.List.{List, [], _∷_, map}
-use Prim.Native.Nat.{ℕ, zero, suc, _+_, _-_, _≤_, _<_}
+use mathlib.Core.Path.{_≡_, ap, sym, _∙_}
+use mathlib.Core.List.{List, [], _∷_}
+use Prim.Native.Nat.{ℕ, _+_, _-_}
 use native.Mathlib.Omega.{arith}
-use lib.ListN.{length, getD}
+use lib.ListN.{getD}
 use borrow.Author.Tests.{lt-ltb, le-ltb}
 use Rattle.base_fields.specs.Answer.{given, andThen}
 use Rattle.base_fields.proofs.Answers.{given-inj, given-first}
-use Rattle.table_rows.specs.Pattern.{Pattern, indexIn, samplesOf, coveredBy, indexOf}
+use Rattle.table_rows.specs.Pattern.{Pattern, samplesOf, coveredBy, indexOf}
 use Rattle.table_rows.proofs.Samples.{coveredBy-samples, indexOf-samples}
 use Rattle.listing_theorem.specs.Meaning.{Meaning, outside}
 use Rattle.listing_theorem.specs.Samples.{meaningOf, meanings}
 use Rattle.listing_theorem.proofs.Samples.{meanings-told}
 use Rattle.listing_spec.specs.Table.{entriesOf}
-use Rattle.listing_meanings.specs.Meant.{meaningIn, HasMeaning}
+use Rattle.listing_meanings.specs.Meant.{meaningIn}
 use Rattle.listing_stretches.specs.Ahead.{meaningOr}
 use Rattle.listing_stretches.specs.Entered.{meaningBy}
 use Rattle.listing_measure.specs.Measured.{PatternMeans, AllMean, meaningsBy}

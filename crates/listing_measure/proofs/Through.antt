@@ -1,7 +1,7 @@
 -- Through a table's patterns: the listing ends where what is in hand and the samples ahead make it end.
 use mathlib.Core.Path.{_≡_, refl, ap, sym, _∙_}
 use mathlib.Core.List.{List, [], _∷_, _++_, map}
-use Prim.Native.Nat.{ℕ, zero, suc, _+_, _≤_, _<_}
+use Prim.Native.Nat.{ℕ, suc, _+_, _≤_, _<_}
 use native.Mathlib.Omega.{arith}
 use lib.ListN.{length, length-append}
 use Rattle.group_sgpd.specs.Head.{ReadWhole}
@@ -9,13 +9,11 @@ use Rattle.group_sgpd.specs.declared.SgpdHead.{SgpdHead}
 use Rattle.table_rows.specs.Pattern.{Pattern, samplesFrom, samplesOf, coveredBy}
 use Rattle.table_rows.proofs.Samples.{coveredBy-samples}
 use Rattle.table_runs.specs.Patterns.{coveredLimit}
-use Rattle.listing_theorem.specs.Meaning.{Meaning}
 use Rattle.listing_theorem.specs.Groups.{groups}
 use Rattle.listing_theorem.specs.Listing.{typeBytes, listing}
-use Rattle.listing_meanings.specs.Meant.{GivesMeaning}
 use Rattle.listing_meanings.specs.declared.MeaningAt.the-variants as at
 use Rattle.listing_meanings.proofs.Found.{gives-outside, has-outside}
-use Rattle.listing_stretches.specs.Ahead.{bytesAhead, endAfter, Moves}
+use Rattle.listing_stretches.specs.Ahead.{bytesAhead, endAfter}
 use Rattle.listing_stretches.specs.Entered.{InHand, Recalls, meaningBy, GivesBegun, begunWith}
 use Rattle.listing_stretches.specs.declared.Progress.{Progress}
 use Rattle.listing_stretches.proofs.Ahead.{listing-ahead}

@@ -1,9 +1,9 @@
 -- A run entered: it joins the stretch in hand, or that one is closed and another begins.
-use mathlib.Core.Path.{_≡_, refl, ap, _∙_}
-use mathlib.Core.List.{List, [], _∷_, _++_, append-assoc, append-nil}
+use mathlib.Core.Path.{_≡_, refl}
+use mathlib.Core.List.{List, [], _++_, append-assoc, append-nil}
 use Prim.Native.Nat.{ℕ, _+_, _<_}
 use lib.ListN.{length, replicate, replicate-append-replicate}
-use Rattle.listing_theorem.specs.Meaning.{Meaning, outside}
+use Rattle.listing_theorem.specs.Meaning.{Meaning}
 use Rattle.listing_theorem.specs.Stretches.{stretches}
 use Rattle.listing_theorem.specs.Groups.{groups}
 use Rattle.listing_theorem.specs.Listing.{each, stretchBytes, typeBytes, listing}

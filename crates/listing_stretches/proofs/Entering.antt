@@ -5,10 +5,10 @@ use Prim.Native.Nat.{ℕ, _+_, _%_, _^_, _≤_, _<_}
 use native.Mathlib.Nat.{zero-add, mod-lt, mod-le, mod-eq-of-lt}
 use native.Mathlib.Decide.{decLt}
 use native.Mathlib.Omega.{arith}
-use lib.ListN.{length, getD, replicate, length-append, set, length-set}
+use lib.ListN.{length, getD, length-append, set, length-set}
 use lib.Seq.{getD-set-same, getD-set-other}
 use borrow.Author.Tests.{lt-ltb}
-use Rattle.base_fields.specs.Answer.{Answer, given, none, refused}
+use Rattle.base_fields.specs.Answer.{given, none}
 use Rattle.base_fields.proofs.Answers.{given-inj}
 use Rattle.group_sgpd.specs.Head.{ReadWhole}
 use Rattle.group_sgpd.specs.declared.SgpdHead.{SgpdHead}
@@ -23,10 +23,9 @@ use Rattle.listing_meanings.specs.Meant.{meantAt, meaningIn, GivesMeaning, HasM
 use Rattle.listing_meanings.specs.declared.MeaningAt.{MeaningAt}
 use Rattle.listing_meanings.specs.declared.MeaningAt.the-variants as at
 use Rattle.listing_meanings.proofs.Found.{meaning-is, entries-are}
-use Rattle.listing_stretches.specs.Ahead.{bytesAhead, meaningOr, endAfter, Enters}
-use Rattle.listing_stretches.specs.Entered.{InHand, meaningBy, GivesEntered, GivesBegun, GivesClosed, PutsStretch, stretchLimit, joinedBy, begunWith}
+use Rattle.listing_stretches.specs.Ahead.{bytesAhead, meaningOr, Enters}
+use Rattle.listing_stretches.specs.Entered.{InHand, meaningBy, GivesEntered, GivesBegun, GivesClosed, PutsStretch, joinedBy, begunWith}
 use Rattle.listing_stretches.specs.Memory.{Remembered, Keeps, keptNext}
-use Rattle.listing_stretches.specs.declared.Hand.{Hand}
 use Rattle.listing_stretches.specs.declared.Progress.{Progress}
 use Rattle.listing_stretches.proofs.Ahead.{ahead-join, ahead-first, ahead-close, ahead-last, ahead-none}
 

@@ -1,10 +1,10 @@
 -- The bytes of a stretch: its length, its kind, and the value in kind 2.
-use mathlib.Core.Path.{_≡_, refl, ap, sym, _∙_}
-use mathlib.Core.List.{List, [], _∷_, _++_, append-nil}
+use mathlib.Core.Path.{_≡_, refl}
+use mathlib.Core.List.{List, [], append-nil}
 use Prim.Native.Nat.{ℕ, _+_, _-_, _^_, _≤_, _<_}
 use native.Mathlib.Omega.{arith}
 use lib.ListN.{length}
-use Rattle.base_fields.specs.Answer.{Answer, given, none, refused, andThen, inputLimit}
+use Rattle.base_fields.specs.Answer.{given, inputLimit}
 use Rattle.base_fields.specs.Span.{bytesAt}
 use Rattle.base_fields.proofs.Answers.{given-inj, given-first}
 use Rattle.group_entries.specs.Decoded.{Decoded}
@@ -12,13 +12,13 @@ use Rattle.group_entries.specs.Layout.{layoutOf, decodeAs, decode}
 use Rattle.group_entries.specs.declared.EntryLayout.{EntryLayout}
 use Rattle.listing_theorem.specs.Meaning.{Meaning, outside, missing, value}
 use Rattle.listing_theorem.specs.Groups.{groups}
-use Rattle.listing_theorem.specs.Listing.{stretchBytes, valueBytes, kind, fieldBytes}
+use Rattle.listing_theorem.specs.Listing.{stretchBytes, kind, fieldBytes}
 use Rattle.listing_numbers.specs.Store.{Puts, placeLimit}
 use Rattle.listing_numbers.proofs.Stores.{puts-then, number-near, number-near-64}
 use Rattle.listing_values.specs.Value.{PutsValue}
-use Rattle.listing_meanings.specs.Meant.{meantAt, entryMeaning, Means}
+use Rattle.listing_meanings.specs.Meant.{entryMeaning, Means}
 use Rattle.listing_meanings.specs.declared.MeaningAt.the-variants as at
-use Rattle.listing_meanings.proofs.Pairs.{part-short, decodes}
+use Rattle.listing_meanings.proofs.Pairs.{part-short}
 use Rattle.listing_stretches.specs.Entered.{PutsStretch}
 
 module _ (t : ℕ) (s : List ℕ) (samples : ℕ) (p : ℕ) (o q : List ℕ) (j : ℕ) where

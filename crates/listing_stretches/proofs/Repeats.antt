@@ -1,16 +1,16 @@
 -- Whole periods of a pattern in one step: one that leaves the stretch in hand as it found it adds as many bytes as the next; one of a single
 -- meaning only lengthens the stretch.
-use mathlib.Core.Path.{_≡_, refl, ap, sym, _∙_}
+use mathlib.Core.Path.{_≡_, refl, ap, _∙_}
 use mathlib.Core.List.{List, [], _∷_, _++_, map, append-assoc}
 use Prim.Native.Nat.{ℕ, zero, suc, _+_, _-_, _*_, _≤_}
-use native.Mathlib.Nat.{suc-mul, zero-mul, add-zero, add-assoc}
+use native.Mathlib.Nat.{suc-mul, zero-mul}
 use native.Mathlib.Omega.{arith}
 use lib.ListN.{length, replicate, replicate-append-replicate}
 use Rattle.table_rows.specs.Pattern.{Pattern, samplesFrom}
 use Rattle.table_rows.proofs.Samples.{samplesFrom-add}
 use Rattle.table_replay.proofs.Repeating.{samples-again}
 use Rattle.listing_theorem.specs.Meaning.{Meaning}
-use Rattle.listing_stretches.specs.Ahead.{bytesAhead, endAfter, Moves}
+use Rattle.listing_stretches.specs.Ahead.{bytesAhead, Moves}
 use Rattle.listing_stretches.specs.Passed.{repeated, lengthened}
 use Rattle.listing_stretches.specs.declared.Hand.{Hand}
 use Rattle.listing_stretches.proofs.Ahead.{ahead-join}

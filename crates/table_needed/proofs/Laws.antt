@@ -1,6 +1,6 @@
 -- What the number of rows needed is good for: with so many records lent the reader gives the table, with fewer it answers 29; and the call
 -- that gives the number never answers 29 itself.
-use mathlib.Core.Path.{_≡_, refl, ap, sym, _∙_}
+use mathlib.Core.Path.{_≡_}
 use mathlib.Core.List.{List}
 use Prim.Native.Nat.{ℕ, _<_, _≤_}
 use native.Mathlib.Omega.{arith}

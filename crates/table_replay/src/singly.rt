@@ -1,5 +1,4 @@
 // Samples entered one by one within a period, with no more work than an index takes: for patterns whose runs are short.
-ghost use mathlib.Core.Path.{_≡_};
 ghost use Prim.Native.Nat.{_%_, _≤_, _<_};
 ghost use Rattle.table_rows.specs.Row.{recordsIn};
 ghost use Rattle.table_patterns.specs.Place.{patternIn, Stands};

@@ -1,11 +1,5 @@
 -- The walk of both public readers: a call of `parse_table` with the kind, whose tag is the one number in which their MIR differs. The lent rows are given up for good to that call.
-use Rattle.base_walk.proofs.Walking.{_≡_, ℕ, _<_, _^_, List, [], _∷_, length, URA, Ty, named, erased, mut, w8, tyRef, Val, vint, SProp, ent, sep, emp, via, fst∗, id⊢, refl, Lft, GName, Share}
-use Rattle.base_walk.proofs.Walking.{Fml, ftrue, flft, Memory, Routine, Heap, Tables, WpFn, Atoms, sem, Fun, fact, Given, Item, ‵, raw, _⊛_, ⋆, some, later, _$_, _∵_, !, qed, by, move, keep}
-use Rattle.base_walk.proofs.Walking.{use1, use2, split, join, pick, fsplit, fjoin, feqL, suffices, frame, await, done, agg, whole, sub, look-in, look, init, forget, stop, hop, fld, from, load}
-use Rattle.base_walk.proofs.Walking.{lit, addr, and-then, no-more, assigns, land, returns, enter, alloc1, alloc0, params1, pass1, pass0, free1, free0, fmOf, WpFn-mono, owns, Is, shows, pointee}
-use Rattle.base_walk.proofs.Walking.{u8, RefT, plain, sliceTy, sliceVal, MutSlice, ShrSlice, Room, finally, slice-vals, mut-slice-tells, shr-slice-tells, shr-slice-copy, owned, peeks, heard}
-use Rattle.base_walk.proofs.Walking.{nothing, Contract, Triple, calls-at, ensured, lasts, Vals, onEntry, Meets, tripleOf, says, Stays, stay-none-slice, gave-slice, walkOf, goes-none-slice}
-use Rattle.base_walk.proofs.Walking.{goes-gave-slice, Walks, ends-at, walked, walk-meets, yes}
+use Rattle.base_walk.proofs.Walking.{_≡_, ℕ, _<_, _^_, List, [], _∷_, length, URA, Ty, named, erased, mut, w8, tyRef, Val, vint, SProp, ent, sep, emp, via, fst∗, id⊢, refl, Lft, GName, Share, Fml, ftrue, flft, Memory, Routine, Heap, Tables, WpFn, Atoms, sem, Fun, fact, Given, Item, ‵, raw, _⊛_, ⋆, some, later, _$_, _∵_, !, qed, by, move, keep, use1, use2, split, join, pick, fsplit, fjoin, feqL, suffices, frame, await, done, agg, whole, sub, look-in, look, init, forget, stop, hop, fld, from, load, lit, addr, and-then, no-more, assigns, land, returns, enter, alloc1, alloc0, params1, pass1, pass0, free1, free0, fmOf, WpFn-mono, owns, Is, shows, pointee, u8, RefT, plain, sliceTy, sliceVal, MutSlice, ShrSlice, Room, finally, slice-vals, mut-slice-tells, shr-slice-tells, shr-slice-copy, owned, peeks, heard, nothing, Contract, Triple, calls-at, ensured, lasts, Vals, onEntry, Meets, tripleOf, says, Stays, stay-none-slice, gave-slice, walkOf, goes-none-slice, goes-gave-slice, Walks, ends-at, walked, walk-meets, yes}
 use mir.Syntax.{Fn, local, valueLocal, place, field, deref, copy, int, aggregate, addrOf, assign, call, seq, return}
 use mir.Val.{vstruct, vcons, vnil}
 use lib.Dec.{T, ltb}

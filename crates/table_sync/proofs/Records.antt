@@ -1,6 +1,6 @@
 -- One law for both tables: record k, below the count, is the number in the w bytes from place p + w * k (p 8 and w 4 in an stss, p 4 and w 1 in an sdtp).
-use mathlib.Core.Path.{_≡_, refl, ap, _∙_}
-use mathlib.Core.List.{List, [], _∷_}
+use mathlib.Core.Path.{_≡_, refl, ap}
+use mathlib.Core.List.{List}
 use Prim.Native.Nat.{ℕ, zero, suc, _+_, _*_, _<_}
 use native.Mathlib.Nat.{mul-zero, mul-suc}
 use native.Mathlib.Omega.{arith}

@@ -2,7 +2,6 @@
 use Prim.Native.Nat.{ℕ, zero, suc}
 use mathlib.Core.Path.{_≡_}
 use mathlib.Core.List.{List, [], _∷_}
-use Rattle.base_fields.specs.Answer.{Answer}
 
 pub data Case : Type 1 where
   gives : {A : Type 0} → A → A → Case

@@ -1,9 +1,9 @@
 -- Descriptions: sgpd, and the typed entries.
 use Prim.Native.Nat.{ℕ}
-use mathlib.Core.List.{List, [], _∷_, _++_}
-use lib.IntN.{ℤ, pos, negsuc}
+use mathlib.Core.List.{List, [], _∷_}
+use lib.IntN.{negsuc}
 use lib.ListN.{replicate}
-use Rattle.base_fields.specs.Answer.{Answer, given, refused}
+use Rattle.base_fields.specs.Answer.{given, refused}
 use Rattle.group_entries.specs.Decoded.{decodeRoll, decodeRash, decodeAlst}
 use Rattle.group_sgpd.specs.Sgpd.{sgpd, entryAt}
 use Rattle.base_fields.specs.Span.{Span}

@@ -4,9 +4,8 @@ use mathlib.Core.List.{List, [], _∷_, _++_}
 use mathlib.Core.Option.{none, some}
 use lib.ListN.{replicate}
 use Rattle.base_fields.specs.Answer as answer
-use Rattle.base_fields.specs.Answer.{Answer, given, refused}
-use Rattle.atom_tree.specs.Atom.{Header, headerAt, bodyAt}
-use Rattle.base_fields.specs.Span.{Span}
+use Rattle.base_fields.specs.Answer.{given, refused}
+use Rattle.atom_tree.specs.Atom.{headerAt, bodyAt}
 use Rattle.test_starred.specs.Case.{Case, gives}
 
 -- "free"

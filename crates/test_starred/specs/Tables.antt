@@ -1,8 +1,8 @@
 -- Sample tables: sbgp, csgp and the lookup.
 use Prim.Native.Nat.{ℕ}
-use mathlib.Core.List.{List, [], _∷_, _++_, map}
+use mathlib.Core.List.{List, [], _∷_, _++_}
 use Rattle.base_fields.specs.Answer.{Answer, given, refused}
-use Rattle.table_rows.specs.Row.{Row, Table, rowsOf, indexAt, covered}
+use Rattle.table_rows.specs.Row.{Row, Table, indexAt, covered}
 use Rattle.table_sbgp.specs.Sbgp.{parseSbgp}
 use Rattle.table_csgp.specs.Table.{parseCsgp}
 use Rattle.test_starred.specs.Case.{Case, gives}

@@ -10,7 +10,7 @@ use Rattle.table_rows.specs.declared.ParsedTable.{ParsedTable}
 use Rattle.listing_spec.specs.Cue.{Cue}
 use Rattle.listing_cue.specs.Told.{GivesCue}
 use Rattle.listing_cue.specs.declared.CueListing.{CueListing}
-use Rattle.group_sgpd.specs.Sgpd.{Description, sgpd, parseSgpd, entryAt, description, pick}
+use Rattle.group_sgpd.specs.Sgpd.{sgpd, parseSgpd, entryAt, description, pick}
 
 pub read-as : {told answer : Answer Table} {before after : List ℕ} {r : ParsedTable}
     → GivesTable told before after r → told ≡ answer → GivesTable answer before after r

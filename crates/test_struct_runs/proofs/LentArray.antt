@@ -11,7 +11,7 @@ use base.Logic.{ent, sep, ex, emp, id⊢, monoR}
 use base.Fml.{Lft, GName, Fml, fsep, fat, froom, flent, fdead}
 use prog.Wp.{Heap}
 use ghost.Atoms.{Atoms, sem}
-use types.Kit.{Given, ‵, _⊛_, some, later, _$_, _∵_, !, qed, move, keep, drop, use1, use3, split, pick, rewrite, fsplit, fjoin, fpick, fpack, await, updating, now as at-once, show, done}
+use types.Kit.{Given, ‵, _⊛_, some, later, _$_, _∵_, !, qed, move, keep, drop, use1, use3, pick, rewrite, fsplit, fjoin, fpick, fpack, await, updating, now as at-once, show, done}
 use types.Share.{parts, arr-parts}
 use types.SemTy.{cells, Arr}
 use denote.RattleType.{RattleType}

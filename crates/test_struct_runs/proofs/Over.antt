@@ -1,11 +1,5 @@
 -- The walk of both functions: the rows that were passed are stored in a local array, which is lent for the call of the reader, for a lifetime that is made for it, and comes back at its last values.
-use Rattle.base_walk.proofs.Walking.{_≡_, refl, _∙_, subst, ℕ, _<_, _^_, List, [], _∷_, length, URA, fullShare, Ty, named, erased, mut, w64, tyRef, Val, SProp, ent, sep, emp, via, fst∗, id⊢, Lft, GName, Share}
-use Rattle.base_walk.proofs.Walking.{Fml, ftrue, flft, fat, Memory, Routine, Heap, Tables, WpFn, Atoms, sem, Fun, fact, Given, Item, ‵, raw, _⊛_, ⋆, some, later, _$_, _∵_, !, qed, by, move, keep}
-use Rattle.base_walk.proofs.Walking.{use1, use2, split, join, pick, fsplit, fjoin, feqL, suffices, frame, await, done, agg, look, init, forget, stop, from, load, of-opd}
-use Rattle.base_walk.proofs.Walking.{lit, addr, and-then, no-more, assigns, land, returns, enter, alloc1, alloc0, params1, pass1, pass0, free1, free0, fmOf, WpFn-mono, owns, Is, shows, pointee}
-use Rattle.base_walk.proofs.Walking.{u8, RefT, plain, sliceTy, sliceVal, MutSlice, ShrSlice, Room, finally, slice-vals, shr-slice-tells, shr-slice-copy, owned, peeks, heard}
-use Rattle.base_walk.proofs.Walking.{nothing, Contract, Triple, calls-at, ensured, lasts, Vals, onEntry, Meets, tripleOf, says, Stays, stay-none, stay-none-slice, walkOf, goes-none, goes-none-slice}
-use Rattle.base_walk.proofs.Walking.{Walks, ends-at, walked, walk-meets, yes, lit<}
+use Rattle.base_walk.proofs.Walking.{refl, _∙_, subst, ℕ, _<_, _^_, List, [], _∷_, length, URA, fullShare, Ty, named, erased, mut, w64, tyRef, Val, SProp, ent, sep, emp, via, fst∗, id⊢, Lft, GName, Share, Fml, ftrue, flft, fat, Memory, Routine, Heap, Tables, WpFn, Atoms, sem, Fun, fact, Given, Item, ‵, raw, _⊛_, ⋆, some, later, _$_, _∵_, !, qed, by, move, keep, use1, use2, split, join, pick, fsplit, fjoin, feqL, suffices, frame, await, done, agg, look, init, forget, stop, from, load, of-opd, lit, addr, and-then, no-more, assigns, land, returns, enter, alloc1, alloc0, params1, pass1, pass0, free1, free0, fmOf, WpFn-mono, owns, Is, shows, pointee, u8, RefT, plain, sliceTy, sliceVal, ShrSlice, Room, slice-vals, shr-slice-tells, shr-slice-copy, owned, peeks, heard, nothing, Contract, Triple, calls-at, ensured, lasts, Vals, onEntry, Meets, tripleOf, says, Stays, stay-none, stay-none-slice, walkOf, goes-none, goes-none-slice, Walks, ends-at, walked, walk-meets, yes, lit<}
 use types.Kit.{use3}
 use types.Tokens.{lft-new, lft-end}
 use mir.Syntax.{Fn, Name, local, valueLocal, memorySlot, place, copy, int, rvOpd, aggregate, addrOf, assign, call, seq, return, tyArray}

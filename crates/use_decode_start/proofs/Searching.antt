@@ -1,11 +1,11 @@
 -- The search along the patterns of a table, cut behind the wanted frame.
-use mathlib.Core.Path.{_≡_, refl, ap, sym, _∙_}
+use mathlib.Core.Path.{_≡_, refl, sym}
 use mathlib.Core.List.{List, [], _∷_}
-use mathlib.Core.Option.{Option, none, some}
-use Prim.Native.Nat.{ℕ, suc, _+_, _-_, _≤_, min}
+use mathlib.Core.Option.{Option, none}
+use Prim.Native.Nat.{ℕ, _+_, _-_, min}
 use native.Mathlib.Omega.{arith}
 use lib.ListN.{length}
-use Rattle.base_fields.specs.Answer.{Answer, given, refused, andThen}
+use Rattle.base_fields.specs.Answer.{Answer, given, refused}
 use Rattle.base_fields.proofs.Answers.{given-inj, given-first, refused-first}
 use Rattle.table_rows.specs.Pattern.{Pattern}
 use Rattle.table_views.specs.Used.{used, usedIn, firstRefusal, cut}

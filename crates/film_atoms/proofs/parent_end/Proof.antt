@@ -1,5 +1,4 @@
 use borrow.Author.Tests.{eq-eqb, ne-eqb}
-use borrow.Author.Needs.{needs}
 use Rattle.film_atoms.proofs.parent_end.Statement.{statement}
 use Rattle.film_atoms.proofs.parent_end.Tie as tie
 

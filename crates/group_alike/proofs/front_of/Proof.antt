@@ -1,8 +1,8 @@
 -- Each arm is the front of its layout, from the decoder's answer: `arm` at the place where the match on the layout began.
-use mathlib.Core.Path.{_≡_, refl, ap, sym, _∙_}
+use mathlib.Core.Path.{_≡_, refl}
 use Rattle.base_fields.specs.Answer.{given, andThen, within}
 use Rattle.group_entries.specs.declared.EntryLayout.{EntryLayout}
-use Rattle.group_entries.specs.declared.EntryLayout.the-variants.{Roll, Rap, Tele, Sap, Rash, Alst}
+use Rattle.group_entries.specs.declared.EntryLayout.the-variants.{Roll, Rap, Tele, Sap}
 use Rattle.group_alike.specs.Front.{FrontIs, frontSize}
 use Rattle.group_alike.proofs.Fronts.{decoderOf, front-told}
 use borrow.Author.Needs.{needs}

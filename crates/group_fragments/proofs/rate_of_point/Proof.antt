@@ -4,7 +4,6 @@ use borrow.Author.Tests.{lt-ltb, le-ltb}
 use native.Mathlib.Omega.{arith}
 use native.Mathlib.Nat.{mul-le-mul, div-add-mod', mod-lt}
 use Prim.Native.Nat.{ℕ, _*_, _/_, _%_, _≤_}
-use mathlib.Core.Path.{_≡_, refl}
 use Rattle.group_fragments.proofs.rate_of_point.Statement.{statement}
 use Rattle.group_fragments.proofs.rate_of_point.Tie as tie
 

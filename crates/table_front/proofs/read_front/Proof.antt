@@ -7,7 +7,7 @@ use borrow.Author.Tests.{lt-ltb, le-ltb}
 use borrow.Author.Needs.{needs}
 use lib.ListN.{length}
 use Rattle.base_fields.specs.Answer.{choose}
-use Rattle.table_front.specs.Front.{hasParameter, countPlace}
+use Rattle.table_front.specs.Front.{countPlace}
 use Rattle.table_front.proofs.read_front.Statement.{statement}
 use Rattle.table_front.proofs.read_front.Tie as tie
 

@@ -1,4 +1,4 @@
-use mathlib.Core.Path.{sym, _∙_}
+use mathlib.Core.Path.{_∙_}
 use Rattle.table_records.proofs.Lent.{rows-over, rows-counted, patterns-counted}
 use borrow.Author.Needs.{needs}
 use Rattle.table_records.proofs.count_rows.Statement.{statement}

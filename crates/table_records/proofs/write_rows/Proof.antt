@@ -1,7 +1,5 @@
-use mathlib.Core.Path.{_≡_, sym, _∙_}
-use Prim.Native.Nat.{_≤_}
+use mathlib.Core.Path.{_∙_}
 use native.Mathlib.Omega.{arith}
-use Rattle.table_rows.specs.Row.{recordsIn}
 use Rattle.table_records.proofs.Lent.{rows-enough, rows-filled, patterns-given, patterns-filled}
 use borrow.Author.Needs.{needs}
 use Rattle.table_records.proofs.write_rows.Statement.{statement}

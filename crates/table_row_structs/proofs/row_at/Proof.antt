@@ -1,5 +1,5 @@
 -- A walk of the MIR of `row_at`: how many rows are read is found by value, and a row below that is read.
-use Rattle.base_walk.proofs.Walking.{_≡_, refl, _∙_, ℕ, _-_, _<_, _^_, List, [], _∷_, length, URA, fullShare, named, w64, tyBool, Val, vint, SProp, ent, emp, via, fst∗, id⊢, exE, snd∗, Lft, Share, ftrue, fat, froom, fdies, Memory, Routine, Heap, Env, Calls, Loops, WpFn, Tables, Atoms, sem, Fun, fact, givenOf, tables, tablesOf, Given, Item, ‵, raw, runs, atRet, Sq, ⋆, _$_, _∵_, !, qed, by, move, drop, use0, join, fsplit, fjoin, suffices, frame, done, look, init, forget, stop, from, load, bin, and-then, no-more, assigns, first, skips, branches, land, returns, enter, alloc1, alloc0, params1, pass1, pass0, free1, free0, exec, FmC, fmOf, WpFn-mono, owns, Is, uint-makes, usize, RefT, plain, ShrSlice, slice-vals, shr-slice-tells, owned, nothing, Contract, Triple, ensured, lasts, onEntry, Meets, tripleOf, entered, cited, says, Stays, stay-none, stay-none-slice, walkOf, goes-none, goes-none-slice, Walks, ends-at, walked, walk-meets, yes, ltb→lt, nltb→le, uint-vals, uint-tells}
+use Rattle.base_walk.proofs.Walking.{_≡_, refl, _∙_, ℕ, _<_, _^_, List, [], _∷_, length, URA, fullShare, named, w64, tyBool, Val, vint, SProp, ent, emp, via, fst∗, id⊢, exE, snd∗, Lft, Share, ftrue, fat, froom, fdies, Memory, Routine, Heap, Env, Calls, Loops, WpFn, Tables, Atoms, sem, Fun, fact, givenOf, tables, tablesOf, Given, Item, ‵, raw, runs, atRet, Sq, ⋆, _$_, _∵_, !, qed, by, move, drop, use0, join, fsplit, fjoin, suffices, frame, done, look, init, forget, stop, from, load, bin, and-then, no-more, assigns, first, skips, branches, land, returns, enter, alloc1, alloc0, params1, pass1, pass0, free1, free0, exec, FmC, fmOf, WpFn-mono, owns, Is, uint-makes, usize, RefT, plain, ShrSlice, slice-vals, shr-slice-tells, owned, nothing, Contract, Triple, ensured, lasts, onEntry, Meets, tripleOf, entered, cited, says, Stays, stay-none, stay-none-slice, walkOf, goes-none, goes-none-slice, Walks, ends-at, walked, walk-meets, yes, ltb→lt, nltb→le, uint-vals, uint-tells}
 use lib.ListN.{getD}
 use types.Run.{returns-within}
 use denote.Struct.Laws as LL

@@ -1,6 +1,6 @@
 -- A walk of the MIR of `set_row`. Where k is below the count the slice is opened, row k is taken out and written, and the slice is closed
 -- at the list with the new row; elsewhere it is not opened. Both ways end in the call of `set_told`.
-use Rattle.base_walk.proofs.Walking.{refl, sym, ap, subst, ℕ, _<_, _^_, List, [], _∷_, length, URA, fullShare, named, w64, tyPtr, Val, vint, vptr, SProp, ent, Lft, GName, Share, ftrue, fsep, flft, fat, fobs, fbor, Memory, Routine, Heap, WpFn, Tables, Atoms, Fun, givenOf, tables, tablesOf, Given, Item, ‵, _⊛_, ⋆, _$_, _∵_, !, qed, by, move, keep, drop, split, join, rewrite, fsplit, fjoin, suffices, frame, done, whole, sub, look-in, look, store-raw, init, forget, stop, hop, fld, from, load, lit, of-opd, bin, assigns, returns, enter, alloc1, alloc0, params1, pass1, pass0, free1, free0, WpFn-mono, owns, Is, shows, uint-vals, uint-tells, usize, RefT, plain, sliceVal, MutSlice, Room, heres, codedHoleys, at-slice, slice-vals, mut-slice-tells, owned, nothing, Vals, onEntry, Meets, tripleOf, entered, says, Stays, stay-none, stay-slice, walkOf, goes-none, goes-slice, Walks, ends-at, walked, walk-meets, yes, place-is, elem-out, elem-put, opens-slice, closes-slice, Held, pureI, arith, _≡_, _-_, Ty, mut, tyBool, tyRef, emp, via, fst∗, id⊢, exE, snd∗, froom, fdies, Env, Calls, Loops, sem, fact, raw, runs, atRet, Sq, use0, and-then, no-more, assigns-last, first, skips, branches, land, exec, FmC, fmOf, pointee, uint-makes, sliceTy, Contract, Triple, ensured, lasts, cited, row, ltb→lt, nltb→le}
+use Rattle.base_walk.proofs.Walking.{refl, sym, ap, subst, ℕ, _<_, _^_, List, [], _∷_, length, URA, fullShare, named, w64, tyPtr, Val, vint, vptr, SProp, ent, Lft, GName, Share, ftrue, fsep, flft, fat, fobs, fbor, Memory, Routine, Heap, WpFn, Tables, Atoms, Fun, givenOf, tables, tablesOf, Given, Item, ‵, _⊛_, ⋆, _$_, _∵_, !, qed, by, move, keep, drop, split, join, rewrite, fsplit, fjoin, suffices, frame, done, whole, sub, look-in, look, store-raw, init, forget, stop, hop, fld, from, load, lit, of-opd, bin, assigns, returns, enter, alloc1, alloc0, params1, pass1, pass0, free1, free0, WpFn-mono, owns, Is, shows, uint-vals, uint-tells, usize, RefT, plain, sliceVal, MutSlice, Room, heres, codedHoleys, at-slice, slice-vals, mut-slice-tells, owned, nothing, Vals, onEntry, Meets, tripleOf, entered, says, Stays, stay-none, stay-slice, walkOf, goes-none, goes-slice, Walks, ends-at, walked, walk-meets, yes, place-is, elem-out, elem-put, opens-slice, closes-slice, Held, pureI, arith, _≡_, Ty, mut, tyBool, tyRef, emp, via, fst∗, id⊢, exE, snd∗, froom, fdies, Env, Calls, Loops, sem, fact, raw, runs, atRet, Sq, use0, and-then, no-more, assigns-last, first, skips, branches, land, exec, FmC, fmOf, pointee, uint-makes, sliceTy, Contract, Triple, ensured, lasts, cited, row, ltb→lt, nltb→le}
 use lib.ListN.{set, length-set}
 use denote.Struct.Laws as LL
 use denote.Enum.Laws as EL

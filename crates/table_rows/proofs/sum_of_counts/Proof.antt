@@ -1,11 +1,11 @@
 -- The loop's invariant, of what the rows from one on cover: the sum so far and that from k and from half + k are that from 0 and from half; two counts add less than 2^33.
-use mathlib.Core.Path.{_≡_, ap, _∙_}
+use mathlib.Core.Path.{_≡_}
 use mathlib.Core.List.{List}
-use Prim.Native.Nat.{ℕ, _+_, _-_, _*_, _/_, _<_, _≤_}
+use Prim.Native.Nat.{ℕ, _+_, _-_, _*_, _/_, _≤_}
 use native.Mathlib.Omega.{arith}
 use lib.ListN.{length, drop}
 use borrow.Author.Needs.{needs}
-use Rattle.table_rows.specs.Row.{Row, rowsOf, recordsIn, covered}
+use Rattle.table_rows.specs.Row.{rowsOf, recordsIn, covered}
 use Rattle.table_rows.proofs.RowAt.{rows-length, covered-from, covered-past}
 use Rattle.table_rows.proofs.sum_of_counts.Statement.{statement}
 use Rattle.table_rows.proofs.sum_of_counts.Tie as tie

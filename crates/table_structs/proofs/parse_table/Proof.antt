@@ -1,14 +1,5 @@
 -- A walk of the MIR of `parse_table`. The slice is opened before the loop and closed behind it; after k turns its first k rows are the first k of the plan's, and the cursor is behind them.
-use Rattle.base_walk.proofs.Walking.{_≡_, refl, sym, ap, subst, ℕ, _+_, _-_, _<_, _≤_, _^_, zero-le, List, [], _∷_, length, URA, fullShare, Ty, named, w64, tyInt, tyBool, tyPtr, Val, vint, vptr}
-use Rattle.base_walk.proofs.Walking.{SProp, ent, sep, emp, via, fst∗, id⊢, exE, snd∗, Lft, GName, Share, Fml, ftrue, flft, fat, froom, fdies, fobs, fauth, fbor, fobor, Memory, Routine, Heap}
-use Rattle.base_walk.proofs.Walking.{Out, Env, afterSeq, afterBlock, Calls, Loops, Wp, atReturn, WpFn, Tables, afterTurn, Atoms, sem, Fun, fact, givenOf, tables, tablesOf, Given, Item, ‵, raw}
-use Rattle.base_walk.proofs.Walking.{runs, anyQ, atRet, Sq, _⊛_, ⋆, _$_, _∵_, !, qed, by, move, drop, use1, use2, split, join, rewrite, fsplit, fjoin, suffices, frame, done, whole, sub, look-in}
-use Rattle.base_walk.proofs.Walking.{look, store, store-raw, init, forget, stop, hop, fld, from, load, lit, of-opd, bin, and-then, no-more, assigns, assigns-last, first, skips, jumps, blocks}
-use Rattle.base_walk.proofs.Walking.{branches, land, returns, enter, alloc1, alloc0, params1, pass1, pass0, free1, free0, exec, Below, again, loops, FmC, fmOf, WpFn-mono, owns, Is, shows}
-use Rattle.base_walk.proofs.Walking.{uint-makes, u8, usize, RefT, plain, sliceVal, MutSlice, ShrSlice, Room, heres, codedHoleys, at-slice, slice-vals, mut-slice-tells, shr-slice-tells}
-use Rattle.base_walk.proofs.Walking.{shr-slice-copy, owned, nothing, Contract, Triple, ensured, lasts, Vals, onEntry, Meets, tripleOf, entered, cited, says, Stays, stay-none, stay-none-slice}
-use Rattle.base_walk.proofs.Walking.{stay-slice, walkOf, goes-none, goes-none-slice, goes-slice, Walks, ends-at, walked, walk-meets, yes, row, place-is, elem-out, elem-put, opens-slice}
-use Rattle.base_walk.proofs.Walking.{closes-slice, Held, pureI, le-antisymm, add-one-dec, arith, WellFounded, InvImage·wf, Nat·lt-wfRel, ltb→lt, nltb→le, lit<}
+use Rattle.base_walk.proofs.Walking.{_≡_, refl, sym, ap, subst, ℕ, _+_, _-_, _<_, _≤_, _^_, zero-le, List, [], _∷_, length, URA, fullShare, Ty, named, w64, tyInt, tyBool, tyPtr, Val, vint, vptr, SProp, ent, sep, emp, via, fst∗, id⊢, exE, snd∗, Lft, GName, Share, Fml, ftrue, flft, fat, froom, fdies, fobs, fauth, fbor, fobor, Memory, Routine, Heap, Out, Env, afterSeq, afterBlock, Calls, Loops, Wp, atReturn, WpFn, Tables, afterTurn, Atoms, sem, Fun, fact, givenOf, tables, tablesOf, Given, Item, ‵, raw, runs, anyQ, atRet, Sq, _⊛_, ⋆, _$_, _∵_, !, qed, by, move, drop, use1, use2, split, join, rewrite, fsplit, fjoin, suffices, frame, done, whole, sub, look-in, look, store, store-raw, init, forget, stop, hop, fld, from, load, lit, of-opd, bin, and-then, no-more, assigns, assigns-last, first, skips, jumps, blocks, branches, land, returns, enter, alloc1, alloc0, params1, pass1, pass0, free1, free0, exec, Below, again, loops, FmC, fmOf, WpFn-mono, owns, Is, shows, uint-makes, u8, usize, RefT, plain, sliceVal, MutSlice, ShrSlice, Room, heres, codedHoleys, at-slice, slice-vals, mut-slice-tells, shr-slice-tells, shr-slice-copy, owned, nothing, Contract, Triple, ensured, lasts, Vals, onEntry, Meets, tripleOf, entered, cited, says, Stays, stay-none, stay-none-slice, stay-slice, walkOf, goes-none, goes-none-slice, goes-slice, Walks, ends-at, walked, walk-meets, yes, row, place-is, elem-out, elem-put, opens-slice, closes-slice, Held, pureI, le-antisymm, add-one-dec, arith, WellFounded, InvImage·wf, Nat·lt-wfRel, ltb→lt, nltb→le, lit<}
 use denote.Struct.Laws as LL
 use denote.Enum.Laws as EL
 use Rattle.base_fields.specs.Answer.{Answer}

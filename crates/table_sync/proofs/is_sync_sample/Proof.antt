@@ -1,8 +1,7 @@
 -- The greatest number up to the sample plus 1 is that number exactly where it is among them.
 use Rattle.table_sync.proofs.Cases.{sync-yes, sync-no, same-refusal}
-use Rattle.table_sync.specs.Sync.{stss, lastUpTo, isSync, lastSync, among}
+use Rattle.table_sync.specs.Sync.{stss}
 use Rattle.table_sync.specs.Told.{toldNumber}
-use Prim.Native.Nat.{_+_}
 use mathlib.Core.Path.{ap, sym, _∙_}
 use borrow.Author.Needs.{needs}
 use Rattle.table_sync.proofs.is_sync_sample.Statement.{statement}

@@ -6,8 +6,8 @@ use Rattle.base_fields.specs.Number.{beAt}
 use lib.ListN.{length, getD}
 use borrow.Author.Needs.{needs}
 use native.Mathlib.Omega.{arith}
-use Prim.Native.Nat.{_+_, _-_, _*_, _≤_, _<_}
-use mathlib.Core.Path.{_≡_, refl, sym, _∙_}
+use Prim.Native.Nat.{_+_, _-_, _*_, _≤_}
+use mathlib.Core.Path.{_≡_, sym, _∙_}
 use Rattle.table_sync.proofs.last_number.Statement.{statement}
 use Rattle.table_sync.proofs.last_number.Tie as tie
 

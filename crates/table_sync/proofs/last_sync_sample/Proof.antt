@@ -1,8 +1,7 @@
 -- The greatest number up to the frame plus 1; 0 is none.
 use Rattle.table_sync.proofs.Cases.{last-none, last-some, same-refusal}
-use Rattle.table_sync.specs.Sync.{stss, lastUpTo, isSync, lastSync, among}
+use Rattle.table_sync.specs.Sync.{stss}
 use Rattle.table_sync.specs.Told.{toldNumber}
-use Prim.Native.Nat.{_+_}
 use mathlib.Core.Path.{ap, sym, _∙_}
 use borrow.Author.Needs.{needs}
 use Rattle.table_sync.proofs.last_sync_sample.Statement.{statement}

@@ -1,6 +1,5 @@
 -- By the limit.
 use borrow.Author.Tests.{lt-ltb, le-ltb}
-use mathlib.Core.Path.{refl}
 use Rattle.table_sync.proofs.later.Statement.{statement}
 use Rattle.table_sync.proofs.later.Tie as tie
 

@@ -1,8 +1,7 @@
 -- 55, 65, none, and the record by the law of both tables.
 use Rattle.table_sync.proofs.Cases.{sdtp-long, sdtp-headless, sdtp-past, sdtp-given}
-use Rattle.base_fields.specs.Answer.{Answer, given}
-use Rattle.table_sync.specs.Sync.{Dependency, dependencyOf}
-use native.Mathlib.Omega.{arith}
+use Rattle.base_fields.specs.Answer.{given}
+use Rattle.table_sync.specs.Sync.{Dependency}
 use mathlib.Core.Path.{ap, _∙_}
 use borrow.Author.Needs.{needs}
 use Rattle.table_sync.proofs.sample_dependency.Statement.{statement}

@@ -1,11 +1,5 @@
 -- The rows that were passed are stored in a local array, which is lent once for the three calls. The slice is Copy: a call is given one copy of what it owns, and the other is kept.
-use Rattle.base_walk.proofs.Walking.{_≡_, refl, ℕ, _<_, _^_, List, [], _∷_, URA, fullShare, Ty, named, w64, Val, vint, SProp, ent, sep, emp, via, fst∗, id⊢, exE, snd∗, GName}
-use Rattle.base_walk.proofs.Walking.{Fml, ftrue, flft, froom, Memory, Routine, Heap, Tables, WpFn, Atoms, sem, Fun, fact, Given, Item, ‵, raw, _⊛_, ⋆, some, later, _$_, _∵_, !, qed, by, move, keep, givenOf, tables, tablesOf}
-use Rattle.base_walk.proofs.Walking.{use1, use2, split, join, pick, fjoin, suffices, frame, await, done, agg, look, init, forget, stop, from, load, of-opd}
-use Rattle.base_walk.proofs.Walking.{lit, addr, and-then, no-more, assigns, land, returns, enter, alloc1, alloc0, params1, pass1, pass0, free1, free0, fmOf, WpFn-mono, owns, Is}
-use Rattle.base_walk.proofs.Walking.{usize, RefT, plain, sliceVal, ShrSlice, Room, uint-makes, uint-vals, uint-tells, shr-slice-copy, owned}
-use Rattle.base_walk.proofs.Walking.{nothing, Contract, Triple, ensured, lasts, Vals, onEntry, Meets, tripleOf, says, Stays, stay-none, walkOf, goes-none, entered, cited}
-use Rattle.base_walk.proofs.Walking.{Walks, ends-at, walked, walk-meets, yes, lit<}
+use Rattle.base_walk.proofs.Walking.{_≡_, refl, ℕ, _<_, _^_, List, [], _∷_, URA, fullShare, Ty, named, w64, Val, vint, SProp, ent, sep, emp, via, fst∗, id⊢, exE, snd∗, GName, Fml, ftrue, flft, froom, Memory, Routine, Heap, Tables, WpFn, Atoms, sem, Fun, fact, Given, Item, ‵, raw, _⊛_, ⋆, some, later, _$_, _∵_, !, qed, by, move, keep, givenOf, tables, tablesOf, use1, use2, split, join, pick, fjoin, suffices, frame, await, done, agg, look, init, forget, stop, from, load, of-opd, lit, addr, and-then, no-more, assigns, land, returns, enter, alloc1, alloc0, params1, pass1, pass0, free1, free0, fmOf, WpFn-mono, owns, Is, usize, RefT, plain, sliceVal, Room, uint-makes, uint-vals, uint-tells, shr-slice-copy, owned, nothing, Contract, Triple, ensured, lasts, Vals, onEntry, Meets, tripleOf, says, Stays, stay-none, walkOf, goes-none, entered, cited, Walks, ends-at, walked, walk-meets, yes, lit<}
 use Rattle.base_walk.proofs.Calls.{Heard, calls-hear}
 use types.Tokens.{lft-new, lft-end, lent-back}
 use base.Fml.{flent}

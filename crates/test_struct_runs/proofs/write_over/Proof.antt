@@ -1,11 +1,5 @@
 -- The rows that were passed are stored in a local array, which is lent for the call that writes pairs, comes back, and is lent again for the call that sets a row.
-use Rattle.base_walk.proofs.Walking.{_≡_, refl, subst, ℕ, _<_, _^_, List, [], _∷_, length, URA, fullShare, Ty, named, w64, Val, vint, SProp, ent, sep, emp, via, fst∗, id⊢, Lft, GName, Share}
-use Rattle.base_walk.proofs.Walking.{Fml, ftrue, flft, fat, Memory, Routine, Heap, Tables, WpFn, Atoms, sem, Fun, fact, Given, Item, ‵, raw, _⊛_, ⋆, some, later, _$_, _∵_, !, qed, by, move, keep, givenOf, tables, tablesOf}
-use Rattle.base_walk.proofs.Walking.{use1, use2, split, join, pick, fsplit, fjoin, feqL, suffices, frame, await, done, agg, look, init, forget, stop, from, load, of-opd}
-use Rattle.base_walk.proofs.Walking.{lit, addr, and-then, no-more, assigns, land, returns, enter, alloc1, alloc0, params1, pass1, pass0, free1, free0, fmOf, WpFn-mono, owns, Is, shows}
-use Rattle.base_walk.proofs.Walking.{u32, usize, RefT, plain, sliceVal, ShrSlice, Room, uint-makes, uint-vals, uint-tells, slice-vals, shr-slice-tells, shr-slice-copy, owned, peeks, heard}
-use Rattle.base_walk.proofs.Walking.{nothing, Contract, Triple, calls-at, ensured, lasts, Vals, onEntry, Meets, tripleOf, says, Stays, stay-none, stay-none-slice, walkOf, goes-none, goes-none-slice, entered, cited}
-use Rattle.base_walk.proofs.Walking.{Walks, ends-at, walked, walk-meets, yes, lit<}
+use Rattle.base_walk.proofs.Walking.{refl, subst, ℕ, _<_, _^_, List, [], _∷_, length, URA, fullShare, Ty, named, w64, Val, vint, SProp, ent, sep, emp, via, fst∗, id⊢, Lft, GName, Share, Fml, ftrue, flft, fat, Memory, Routine, Heap, Tables, WpFn, Atoms, sem, Fun, fact, Given, Item, ‵, raw, _⊛_, ⋆, some, later, _$_, _∵_, !, qed, by, move, keep, givenOf, tables, tablesOf, use1, use2, split, join, pick, fsplit, fjoin, feqL, suffices, frame, await, done, agg, look, init, forget, stop, from, load, of-opd, lit, addr, and-then, no-more, assigns, land, returns, enter, alloc1, alloc0, params1, pass1, pass0, free1, free0, fmOf, WpFn-mono, owns, Is, shows, u32, usize, RefT, plain, sliceVal, ShrSlice, Room, uint-makes, uint-vals, uint-tells, slice-vals, shr-slice-tells, shr-slice-copy, owned, peeks, heard, nothing, Contract, Triple, calls-at, ensured, lasts, Vals, onEntry, Meets, tripleOf, says, Stays, stay-none, stay-none-slice, walkOf, goes-none, goes-none-slice, entered, cited, Walks, ends-at, walked, walk-meets, yes, lit<}
 use types.Kit.{use3}
 use types.Tokens.{lft-new, lft-end}
 use base.Fml.{flent}
@@ -16,7 +10,6 @@ use denote.Lend.{Held}
 use denote.Steps.{only}
 use denote.Enum.Laws as EL
 use denote.Struct.Laws as LL
-use Rattle.table_row_structs.specs.Records.{copyInto, rowsCopied}
 use Rattle.table_row_structs.specs.Steps.{GivesSet, GivesRows}
 use Rattle.table_row_structs.specs.declared.SampleToGroupEntry.{SampleToGroupEntry}
 use Rattle.table_row_structs.specs.declared.Written.{Written}

@@ -1,7 +1,6 @@
 -- The loop ends: it goes on by a line each turn. The counts stay at most the bytes passed.
 use borrow.Author.Needs.{needs}
-use native.Mathlib.Omega.{arith}
-use Prim.Native.Nat.{_+_, _-_, _*_, _/_, _≤_}
+use Prim.Native.Nat.{_+_, _-_, _≤_}
 use lib.ListN.{length}
 use mathlib.Core.Path.{_≡_}
 use Rattle.test_vectors.proofs.count_lines.Statement.{statement}

@@ -1,7 +1,7 @@
 -- The loop ends, and every store is within the rows.
 use borrow.Author.Needs.{needs}
 use native.Mathlib.Omega.{arith}
-use Prim.Native.Nat.{_+_, _-_, _*_, _/_, _≤_}
+use Prim.Native.Nat.{_-_, _≤_}
 use lib.ListN.{length, length-set}
 use mathlib.Core.Path.{_≡_}
 use Rattle.test_vectors_tables.proofs.load.Statement.{statement}

@@ -1,9 +1,7 @@
 -- The loop ends, and every read is within the rows.
 use borrow.Author.Needs.{needs}
 use native.Mathlib.Omega.{arith}
-use Prim.Native.Nat.{_+_, _-_, _*_, _/_, _≤_}
-use lib.ListN.{length}
-use mathlib.Core.Path.{_≡_}
+use Prim.Native.Nat.{_-_, _≤_}
 use Rattle.test_vectors_tables.proofs.same_rows.Statement.{statement}
 use Rattle.test_vectors_tables.proofs.same_rows.Tie as tie
 

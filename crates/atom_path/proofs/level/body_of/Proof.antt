@@ -1,9 +1,7 @@
 -- By whether the header passes the end.
 use mathlib.Core.Path.{_≡_, refl}
-use mathlib.Core.Path.{_≡_, ap}
-use Prim.Native.Nat.{ℕ, _-_}
+use Prim.Native.Nat.{_-_}
 use native.Mathlib.Omega.{arith}
-use Rattle.base_fields.specs.Span.{Span}
 use borrow.Author.Needs.{needs}
 use Rattle.atom_path.proofs.level.body_of.Statement.{statement}
 use Rattle.atom_path.proofs.level.body_of.Tie as tie

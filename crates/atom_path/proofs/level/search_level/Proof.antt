@@ -1,4 +1,3 @@
-use native.Mathlib.Omega.{arith}
 use Rattle.atom_path.specs.Told.{levelOf}
 use Rattle.atom_path.proofs.Cases.{top-level}
 use Rattle.atom_path.proofs.level.search_level.Statement.{statement}

@@ -3,7 +3,6 @@ use Rattle.atom_path.proofs.Cases.{top-headed, top-none, top-refused}
 use Rattle.atom_tree.proofs.Headers.{header-sound}
 use Rattle.atom_tree.specs.Told.{toldHeader}
 use mathlib.Core.Path.{ap, sym, _∙_}
-use mathlib.Core.Path.{_≡_, refl, ap, sym, _∙_}
 use borrow.Author.Needs.{needs}
 use Rattle.atom_path.proofs.level.top_atom.Statement.{statement}
 use Rattle.atom_path.proofs.level.top_atom.Tie as tie

@@ -1,5 +1,5 @@
 -- By the header reader's answer; a sound header's size covers the header, so the difference is there.
-use mathlib.Core.Path.{_≡_, refl, ap, sym, _∙_}
+use mathlib.Core.Path.{refl, ap, sym, _∙_}
 use Rattle.atom_tree.specs.Atom.{declaredAt}
 use Rattle.atom_tree.specs.Told.{toldHeader}
 use Rattle.atom_tree.proofs.Enums.{is-nothing}

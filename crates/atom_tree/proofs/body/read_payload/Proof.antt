@@ -1,9 +1,6 @@
-use mathlib.Core.Path.{_≡_, refl, ap, sym, _∙_}
-use mathlib.Core.Option.{none, some}
-use borrow.Author.Tests.{lt-ltb}
-use Rattle.base_fields.specs.Answer.{Answer, andThen}
+use mathlib.Core.Path.{ap, sym, _∙_}
+use mathlib.Core.Option.{none}
 use Rattle.atom_tree.specs.Atom.{present}
-use Rattle.base_fields.specs.Span.{Span}
 use Rattle.atom_tree.specs.Told.{toldPayload}
 use Rattle.atom_tree.proofs.Enums.{no-body}
 use Rattle.atom_tree.proofs.Headers.{declared-fits}

@@ -1,8 +1,7 @@
 -- The declared body, then the envelope; under it, `present` is the same as without one.
-use mathlib.Core.Path.{_≡_, refl, ap, sym, _∙_}
-use mathlib.Core.Option.{none, some}
+use mathlib.Core.Path.{ap, sym, _∙_}
+use mathlib.Core.Option.{some}
 use borrow.Author.Tests.{lt-ltb}
-use Rattle.base_fields.specs.Answer.{Answer, andThen}
 use Rattle.atom_tree.specs.Atom.{present}
 use Rattle.base_fields.specs.Span.{Span}
 use Rattle.atom_tree.specs.Told.{toldPayload}

@@ -1,5 +1,5 @@
 -- By the header reader's answer: the header case goes on, none and refusal return.
-use mathlib.Core.Path.{_≡_, refl, ap, sym, _∙_}
+use mathlib.Core.Path.{refl, ap, sym, _∙_}
 use Rattle.atom_tree.specs.Told.{toldHeader}
 use Rattle.atom_tree.proofs.Enums.{is-nothing}
 use Rattle.atom_tree.proofs.Headers.{header-sound}

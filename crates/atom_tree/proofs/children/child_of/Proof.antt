@@ -1,7 +1,6 @@
 -- By the size and the parent's end; the sum fits since the header is sound.
 use mathlib.Core.Path.{ap, _∙_}
 use native.Mathlib.Omega.{arith}
-use Rattle.atom_tree.specs.Atom.{Ends}
 use Rattle.atom_tree.specs.Told.{sizeOf, parentEnd, headerOf}
 use Rattle.atom_tree.proofs.Cases.{child-sized, child-open}
 use borrow.Author.Needs.{needs}

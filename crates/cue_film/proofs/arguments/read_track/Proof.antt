@@ -1,6 +1,5 @@
 -- The loop's invariant: the number fits 32 bits.
 use Prim.Native.Nat.{_-_, _≤_}
-use native.Mathlib.Omega.{arith}
 use lib.ListN.{length}
 use borrow.Author.Needs.{needs}
 use Rattle.cue_film.proofs.arguments.read_track.Statement.{statement}

@@ -1,5 +1,4 @@
 -- Nothing in hand leaves no bytes; else the stretch in hand is the last one.
-use mathlib.Core.Path.{refl, sym}
 use native.Mathlib.Omega.{arith}
 use borrow.Author.Needs.{needs}
 use Rattle.listing_stretches.proofs.Entering.{means-by, close-none, close-some}

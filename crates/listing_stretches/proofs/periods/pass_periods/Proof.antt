@@ -1,5 +1,5 @@
 -- What was found at the period's end picks the case of `Later`; without a whole period since the mark nothing moves.
-use mathlib.Core.Path.{_≡_, refl, sym}
+use mathlib.Core.Path.{_≡_, refl}
 use mathlib.Core.Logic.{inl, inr}
 use Prim.Native.Nat.{ℕ, _+_, _-_, _*_, _/_, _≤_}
 use native.Mathlib.Nat.{div-mul-le-self, zero-mul, add-zero}

@@ -1,5 +1,5 @@
 -- The loop's invariant: the samples counted and those ahead are all; each pattern passed has at most the largest count.
-use mathlib.Core.Path.{_≡_, refl, ap, sym, _∙_}
+use mathlib.Core.Path.{_≡_}
 use Prim.Native.Nat.{_+_, _*_, _≤_}
 use native.Mathlib.Omega.{arith}
 use borrow.Author.Needs.{needs}
