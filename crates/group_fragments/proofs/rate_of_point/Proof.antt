@@ -25,7 +25,7 @@ add-result c = let a = c .before .before .args in
 returns-2 : tie.Need-returns-2
 unfolding rateOf
 returns-2 c = let a = c .before .before .args in
-    simp (le-ltb (a .bitrate * a .share % 100) 50 (c .before .if1 .left), lt-ltb 50 (a .bitrate * a .share % 100) (c .if2 .taken))
+    simp (le-ltb (a .bitrate * a .share % 100) 50 (omega (arith, c .before .if1 .left)), lt-ltb 50 (a .bitrate * a .share % 100) (c .if2 .taken))
 
 add-result-2 : tie.Need-add-result-2
 add-result-2 c = let a = c .before .before .args in
@@ -34,7 +34,7 @@ add-result-2 c = let a = c .before .before .args in
 returns-3 : tie.Need-returns-3
 unfolding rateOf
 returns-3 c = let a = c .before .before .args in
-    simp (le-ltb (a .bitrate * a .share % 100) 50 (c .before .if1 .left), le-ltb 50 (a .bitrate * a .share % 100) (c .if2 .left))
+    simp (le-ltb (a .bitrate * a .share % 100) 50 (omega (arith, c .before .if1 .left)), le-ltb 50 (a .bitrate * a .share % 100) (c .if2 .left))
 
 pub rate-of-point-spec : {M : Type 1} → statement M
 rate-of-point-spec =

@@ -22,7 +22,7 @@ unfolding stored
 returns c =
     let a = c .before .args in
     record {
-      output = ⊎-elim (λ w. w .1) (λ w. w .1 ∙ sym (set-out (a .out .now) (a .at) (a .byte) (w .0 .left))) (c .if1 .came);
+      output = ⊎-elim (λ w. w .1) (λ w. w .1 ∙ sym (set-out (a .out .now) (a .at) (a .byte) (omega (arith, w .0 .left)))) (c .if1 .came);
       next = omega arith;
     }
 

@@ -2,10 +2,12 @@
 use mathlib.Core.Path.{_≡_, refl, ap}
 use Prim.Native.Nat.{ℕ, _+_, _-_, _*_, _/_, _≤_}
 use native.Mathlib.Omega.{arith}
+use mathlib.Core.List.{List}
 use lib.ListN.{length}
-use Rattle.group_entries.specs.Decoded.{rollCount}
+use Rattle.group_entries.specs.Decoded.{rollCount, offsetsEnd, pairAt, upTo}
 use Rattle.group_entries.specs.declared.EntryLayout.the-variants.{Alst}
 use Rattle.listing_theorem.specs.Groups.{groups}
+use Rattle.listing_theorem.specs.Listing.{each, pairBytes}
 use Rattle.listing_numbers.specs.Store.{placeLimit}
 use Rattle.listing_values.specs.Parts.{PutsWithin}
 use Rattle.listing_values.proofs.Parts.{ready-sized, value-put, number-within, within-then}
@@ -31,6 +33,31 @@ offsets-near c =
     let count = first .before .before .before .before in
     let read = count .before .before in
     omega (arith, c .put-offsets .ensures .near, first .put-u16 .ensures .near, count-put count .near, read .read-u16 .ensures .1, read .before .before .before .pre .place)
+
+-- as many pairs as the bytes behind the offsets make
+abbrev pairCount : List ℕ → ℕ
+pairCount s = (length s - offsetsEnd s) / 4
+
+-- the pairs stand behind their count, which stands behind the offsets
+pairs-counted : (c : tie.After-put-number2)
+    → let offsets = c .before .before .before .before in
+    let read = offsets .before .before .before .before .before .before .before .before .before .before in
+    let s = read .before .before .before .args .entry .now in
+    PutsWithin 4 (groups (pairCount s)) (offsets .put-offsets .result) (offsets .put-offsets .last .1 .1 .0) (c .put-number2 .last .0) (c .put-number2 .result)
+pairs-counted c =
+    let read = c .before .before .before .before .before .before .before .before .before .before .before .before .before .before in
+    let start = read .before .before .before in
+    let n = ap (λ (n : ℕ). (length (start .args .entry .now) - (4 + 4 * n)) / 4) (read .read-u16 .ensures .0) in
+    number-within 3 n (omega (arith, extent read, start .pre .short)) (c .put-number2 .ensures)
+
+pairs-put : (c : tie.After-put-pairs)
+    → let number = c .before .before .before .before in
+    let s = number .before .before .before .before .before .before .before .before .before .before .before .before .before .before .before .before .before .args .entry .now in
+    PutsWithin (6 * pairCount s) (each pairBytes (upTo (pairAt s) 0 (pairCount s))) (number .put-number2 .result) (number .put-number2 .last .0) (c .put-pairs .last .1 .1 .1 .0) (c .put-pairs .result)
+pairs-put c =
+    let read = c .before .before .before .before .before .before .before .before .before .before .before .before .before .before .before .before .before .before in
+    let n = ap (λ (n : ℕ). (length (read .before .before .before .args .entry .now) - (4 + 4 * n)) / 4) (read .read-u16 .ensures .0) in
+    rw n at (c .put-pairs .ensures)
 
 read-u16-requires : tie.Need-read-u16-requires
 read-u16-requires c κs = omega (arith, ready-sized (c .before .before .pre))
@@ -88,8 +115,7 @@ returns c =
     let size = length (start .args .entry .now) in
     let n = ap (λ (n : ℕ). (size - (4 + 4 * n)) / 4) e in
     let front = within-then (within-then (count-put count) (first .put-u16 .ensures)) (rw e at (offsets .put-offsets .ensures)) in
-    let counted = within-then front (number-within 3 n (omega (arith, extent read, start .pre .short)) (number .put-number2 .ensures)) in
-    value-put Alst _ (within-then counted (rw n at (pairs .put-pairs .ensures))) (omega (arith, extent read, e, n, read .read-u16 .ensures .1, start .pre .short))
+    value-put Alst _ (within-then (within-then front (pairs-counted number)) (pairs-put pairs)) (omega (arith, extent read, e, n, read .read-u16 .ensures .1, start .pre .short))
 
 pub put-alst-spec : {M : Type 1} → statement M
 put-alst-spec =

@@ -5,9 +5,11 @@ use native.Mathlib.Omega.{arith}
 use lib.Dec.{eqb}
 use lib.ListN.{length}
 use Rattle.base_fields.specs.Answer.{choose}
-use Rattle.group_entries.specs.Decoded.{pointCount, pointsEnd}
+use Rattle.base_fields.specs.Number.{beAt}
+use Rattle.group_entries.specs.Decoded.{pointCount, pointsEnd, pointAt, upTo}
 use Rattle.group_entries.specs.declared.EntryLayout.the-variants.{Rash}
 use Rattle.listing_theorem.specs.Groups.{groups}
+use Rattle.listing_theorem.specs.Listing.{each, pointBytes}
 use Rattle.listing_numbers.specs.Store.{placeLimit}
 use Rattle.listing_values.specs.Parts.{PutsWithin}
 use Rattle.listing_values.proofs.Parts.{ready-sized, value-put, number-within, within-then}
@@ -32,6 +34,22 @@ points-near : (c : tie.After-put-points) → c .put-points .result ≤ placeLimi
 points-near c =
     let number = c .before .before .before .before in
     omega (arith, c .put-points .ensures .near, count-put number .near, number .before .before .before .read-u16 .ensures .1, number .before .before .before .before .before .before .pre .place)
+
+-- the points stand behind their count
+points-put : (c : tie.After-put-points)
+    → let number = c .before .before .before .before in
+    let s = number .before .before .before .before .before .before .args .entry .now in
+    PutsWithin (8 * pointCount s) (each pointBytes (upTo (pointAt s) 0 (pointCount s))) (number .put-number .result) (number .put-number .last .0) (c .put-points .last .1 .1 .0) (c .put-points .result)
+points-put c = rw (c .before .before .before .before .before .before .before .read-u16 .ensures .0) at (c .put-points .ensures)
+
+-- the priority is the last byte of the trailer
+priority-put : (c : tie.After-put-u8)
+    → let minimum = c .before .before .before .before in
+    let s = minimum .before .before .before .before .before .before .before .before .before .before .before .before .before .before .before .before .before .before .args .entry .now in
+    PutsWithin 2 (groups (beAt 1 s (pointsEnd s + 8))) (minimum .put-u322 .result) (minimum .put-u322 .last .1 .1 .0) (c .put-u8 .last .1 .1 .0) (c .put-u8 .result)
+priority-put c =
+    let number = c .before .before .before .before .before .before .before .before .before .before .before .before .before .before .before .before in
+    rw (end-at (number .before .before)) at (c .put-u8 .ensures)
 
 read-u16-requires : tie.Need-read-u16-requires
 read-u16-requires c κs = omega (arith, ready-sized (c .before .before .pre))
@@ -82,9 +100,9 @@ returns c =
     let number = points .before .before .before .before in
     let e = end-at (number .before .before) in
     let n = number .before .before .before .read-u16 .ensures .0 in
-    let front = within-then (count-put number) (rw n at (points .put-points .ensures)) in
+    let front = within-then (count-put number) (points-put points) in
     let rates = within-then (within-then front (rw e at (maximum .put-u32 .ensures))) (rw e at (minimum .put-u322 .ensures)) in
-    value-put Rash _ (within-then rates (rw e at (priority .put-u8 .ensures))) (omega (arith, n, number .before .before .before .read-u16 .ensures .1))
+    value-put Rash _ (within-then rates (priority-put priority)) (omega (arith, n, number .before .before .before .read-u16 .ensures .1))
 
 pub put-rash-spec : {M : Type 1} → statement M
 put-rash-spec =
