@@ -9,7 +9,7 @@ use lib.Seq.{drop-cons, drop-length}
 use borrow.Author.Tests.{lt-ltb, le-ltb}
 use Rattle.table_rows.specs.Row.{Row, recordNumbers, rowsOf, recordsIn, noRow, covered, indexAt}
 
--- so many numbers are a row
+-- as many rows as records
 pub rows-length : (l : List ℕ) → length (rowsOf l) ≡ recordsIn l
 unfolding rowsOf
 rows-length [] = refl
