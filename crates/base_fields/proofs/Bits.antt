@@ -63,6 +63,20 @@ bits-of (suc w) n s b o bytes h =
     let j : bitAt s (8 * b + o + w) ≡ y % 2 = rw (add-assoc (8 * b) o w) (sym (bit-of n s b (o + w) bytes (omega arith)) ∙ rw f refl) in
     rw (i, j) (sym (mod-pow-add y w 1) ∙ ap (λ (m : ℕ). y % 2 ^ m) (add-one w))
 
+-- a number of w bits is below 2 to the w
+pub bits-below : (w : ℕ) (s : List ℕ) (p : ℕ) → bitsAt w s p < 2 ^ w
+unfolding bitsAt bitAt
+bits-below zero s p = omega arith
+bits-below (suc w) s p = rw pow-suc (omega (arith, bits-below w s p))
+
+-- its highest bit is the one at its place, and the others are the number behind that bit
+pub bits-highest : (w : ℕ) (s : List ℕ) (p : ℕ) → bitsAt (suc w) s p ≡ bitAt s p * 2 ^ w + bitsAt w s (p + 1)
+unfolding bitsAt
+bits-highest zero s p = rw add-zero (omega arith)
+bits-highest (suc w) s p =
+    let e : p + suc w ≡ p + 1 + w = omega arith in
+    rw (bits-highest w s p, e, pow-suc 2 w, ← mul-assoc (bitAt s p) (2 ^ w) 2) (omega arith)
+
 -- a divisor of the code is a power of 2 that does not wrap
 pub divisor : (w : ℕ) → w ≤ 32 → (1 * 2 ^ w) % 18446744073709551616 ≡ 2 ^ w
 divisor w h = rw one-mul (mod-eq-of-lt (pow-lt {i = w} {j = 64} (omega arith)))

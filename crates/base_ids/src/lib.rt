@@ -23,3 +23,6 @@ pub struct SampleNumber(pub SampleCount);
 
 // The number of a group description, counted from 1; 0 is none.
 pub struct DescriptionIndex(pub u32);
+
+// Bit 31 of an index: it is local to a fragment.
+pub const LOCAL_MARK: u32 = 2147483648;

@@ -61,7 +61,7 @@ pub used-taken : (s : List ℕ) (p : PatternAt) (n : ℕ) → n ≡ min (p .leng
 unfolding used
 used-taken s p n e =
     let l = patternIn s p .indices in
-    let size : length l ≡ p .length = indices-length (p .width) s (p .length) (p .indices) in
+    let size : length l ≡ p .length = indices-length (p .marks) (p .width) s (p .length) (p .indices) in
     elim (decLt (p .length) (p .count)) [
       | yes h ↦ take-all (p .count) l (omega arith) ∙ sym (take-all n l (omega arith))
       | no h ↦ let d : p .count ≡ n = omega arith in ap (λ (k : ℕ). take k l) d

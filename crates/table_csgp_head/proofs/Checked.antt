@@ -10,8 +10,9 @@ use Rattle.table_front.specs.Front.{hasParameter}
 use Rattle.table_front.proofs.Fronts.{front-rest}
 use Rattle.table_front.specs.declared.TableKind.the-variants.{Csgp}
 use Rattle.table_patterns.specs.Place.{bitCount, patternIn, Stands}
-use Rattle.table_csgp_head.specs.Csgp.{indexWidth, countWidth, lengthWidth, patternCount, streamPlace, indexPlace, readPairs, readPatterns, readFrom, readAll, csgp}
+use Rattle.table_csgp_head.specs.Csgp.{indexWidth, countWidth, lengthWidth, patternCount, streamPlace, indexPlace, readPairs, readIndices, readPatterns, readFrom, readAll, csgp}
 use Rattle.table_csgp_head.specs.Head.{Fixed, placeAt, pairBehind, indicesBehind, patternsFrom, WholeFrom, Read, allPatterns, patternsBehind, CsgpLaid, pairRead}
+use Rattle.table_csgp_head.specs.Indices.{IndicesRead}
 use Rattle.table_csgp_head.specs.declared.CsgpHead.{CsgpHead}
 use Rattle.table_csgp_head.specs.declared.PatternsAt.{PatternsAt}
 use Rattle.table_csgp_head.proofs.Widths.{widths}
@@ -76,16 +77,16 @@ module _ (s : List ℕ) (h : CsgpHead) (f : Fixed s h) where
       checked-empty e = c .refusal (first ∙ ahead-empty s (here .left - 1) (here .pair) (here .indices) fits e)
 
       module _ (d : size ≡ 0 → ⊥) where
-        pub checked-cut : bitCount s < here .indices + indexWidth s * size → readAll s ≡ refused 27
+        pub checked-cut : {n : ℕ} → readIndices size s (here .indices) ≡ refused n → readAll s ≡ refused n
         checked-cut e = c .refusal (first ∙ ahead-cut s (here .left - 1) (here .pair) (here .indices) fits d e)
 
-        module _ (e : here .indices + indexWidth s * size ≤ bitCount s) where
+        module _ (e : IndicesRead s (here .indices) size) where
           more : readFrom (here .left) s (here .pair) (here .indices)
               ≡ andThen (readFrom (here .left - 1) s (pairBehind s (here .pair)) (indicesBehind s (here .pair) (here .indices))) (λ rest. given (patternIn s (placeAt s (here .pair) (here .indices)) ∷ rest))
           more = first ∙ ahead-more s (here .left - 1) (here .pair) (here .indices) fits d e
 
           stands : Stands s (placeAt s (here .pair) (here .indices))
-          stands = record { narrow = widths s .index .1; some = omega arith; late = omega (arith, c .late); inside = e; short = f .short }
+          stands = record { wide = omega (arith, widths s .index .0); narrow = widths s .index .1; some = omega arith; late = omega (arith, c .late); inside = e .inside; short = f .short }
 
           read-more : Read (here .left - 1) s (pairBehind s (here .pair)) (indicesBehind s (here .pair) (here .indices)) → Read (here .left) s (here .pair) (here .indices)
           unfolding WholeFrom patternsFrom
@@ -98,6 +99,6 @@ module _ (s : List ℕ) (h : CsgpHead) (f : Fixed s h) where
                 refusal = λ r. c .refusal (more ∙ rw r refl);
                 passed = λ r. c .passed (read-more r);
                 pairsFit = omega (arith, fits, suc-mul (here .left - 1) (lengthWidth s + countWidth s));
-                inside = e;
+                inside = e .inside;
                 late = omega (arith, c .late);
               })

@@ -11,7 +11,7 @@ use Rattle.table_front.specs.declared.TableKind.the-variants.{Csgp}
 use Rattle.table_patterns.specs.Place.{bitCount, patternIn, Stands}
 use Rattle.table_patterns.specs.declared.PatternAt.{PatternAt}
 use Rattle.table_rows.specs.Pattern.{Pattern}
-use Rattle.table_csgp_head.specs.Csgp.{indexWidth, countWidth, lengthWidth, patternCount, streamPlace, indexPlace, Pair, readPairs, readFrom, readAll, csgp}
+use Rattle.table_csgp_head.specs.Csgp.{indexWidth, countWidth, lengthWidth, hasMarks, patternCount, streamPlace, indexPlace, Pair, readPairs, readFrom, readAll, csgp}
 use Rattle.table_csgp_head.specs.declared.CsgpHead.{CsgpHead}
 use Rattle.table_csgp_head.specs.declared.ReadCsgp.{ReadCsgp}
 use Rattle.table_csgp_head.specs.declared.ReadCsgp.the-variants as read
@@ -28,6 +28,7 @@ pub record Fixed (s : List ℕ) (h : CsgpHead) : Type 0 where
   pub indexBits : h .«index_width» ≡ indexWidth s
   pub countBits : h .«count_width» ≡ countWidth s
   pub lengthBits : h .«length_width» ≡ lengthWidth s
+  pub marked : h .marks ≡ hasMarks s
   pub pairsPlace : h .pairs ≡ streamPlace s
   pub indicesPlace : h .indices ≡ indexPlace s
   pub short : length s ≤ inputLimit
@@ -53,7 +54,7 @@ pairOf s p = record { length = pairRead s p .patternLength; count = pairRead s p
 
 -- the pattern whose pair stands at p and whose indices stand at q, and the places of the next one
 abbrev pub placeAt : List ℕ → ℕ → ℕ → PatternAt
-placeAt s p q = record { length = pairRead s p .patternLength; count = pairRead s p .sampleCount; width = indexWidth s; indices = q }
+placeAt s p q = record { length = pairRead s p .patternLength; count = pairRead s p .sampleCount; width = indexWidth s; indices = q; marks = hasMarks s }
 
 abbrev pub pairBehind : List ℕ → ℕ → ℕ
 pairBehind s p = p + lengthWidth s + countWidth s

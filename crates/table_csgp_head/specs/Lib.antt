@@ -1,2 +1,3 @@
 pub mod Csgp
 pub mod Head
+pub mod Indices

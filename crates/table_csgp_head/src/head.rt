@@ -3,6 +3,8 @@ use super::Check;
 use super::CsgpHead;
 use super::ReadCsgp;
 use super::first_pattern;
+use super::indices::can_be_large;
+use super::indices::check_indices;
 use super::patterns_behind;
 use super::walk::length_at;
 use base_fields::read_u8;
@@ -11,7 +13,8 @@ use table_front::TableFront;
 use table_front::TableKind;
 use table_front::read_front;
 ghost use mathlib.Core.Path.{_≡_};
-ghost use Prim.Native.Nat.{_≤_};
+ghost use Prim.Native.Nat.{_/_, _%_, _≤_};
+ghost use lib.Dec.{eqb};
 ghost use Rattle.table_front.specs.Told.{FrontOf};
 ghost use Rattle.table_front.specs.declared.TableKind.the-variants.{Csgp};
 ghost use Rattle.table_patterns.specs.Place.{bitCount};
@@ -27,6 +30,16 @@ fn field_width(code: u32) -> u32
         1 => 8,
         2 => 16,
         _ => 32,
+    }
+}
+
+// Whether flag bit 7 is set: indices have marks.
+fn has_marks(flags: u32) -> bool
+    ensures { λ r. ⌜ r ≡ eqb (flags / 128 % 2) 1 ⌝ }
+{
+    match flags / 128 % 2 {
+        1 => true,
+        _ => false,
     }
 }
 
@@ -48,6 +61,7 @@ fn head_of(s: &[u8], front: TableFront) -> CsgpHead
         length_width,
         pairs,
         indices: pairs + (front.count as usize) * ((length_width + count_width) as usize),
+        marks: has_marks(flags),
     }
 }
 
@@ -77,20 +91,20 @@ fn check_pairs(s: &[u8], head: CsgpHead) -> Check
     Check::Refused(25)
 }
 
-// The patterns, where the pair table is there: the first that has no index, or whose indices are cut.
+// The patterns, where the pair table is there: the first that has no index, or an index that is cut or too large.
 fn check_patterns(s: &[u8], head: CsgpHead) -> Check
     requires { ⌜ (Fixed (now s) head) × (indexPlace (now s) ≤ bitCount (now s)) ⌝ }
     ensures { λ r. ⌜ GivesPatterns (now (s .entry)) r ⌝ }
 {
-    let bits = 8 * s.len();
+    let large = can_be_large(head);
     let mut here = first_pattern(head);
     while 0 < here.left {
         let length = length_at(s, head, here.pair);
         if length == 0 {
             return Check::Refused(26);
         }
-        if bits - here.indices < (head.index_width as usize) * (length as usize) {
-            return Check::Refused(27);
+        if let Check::Refused(n) = check_indices(s, head, large, here.indices, length) {
+            return Check::Refused(n);
         }
         here = patterns_behind(head, here, length);
     }

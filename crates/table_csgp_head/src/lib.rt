@@ -1,5 +1,6 @@
 // The patterns of a csgp payload (document 01, part 4): its head, given where all of them are there, and where each of them stands.
 mod head;
+mod indices;
 mod walk;
 
 pub use self::head::read_csgp;
@@ -17,6 +18,8 @@ pub struct CsgpHead {
     // The bit places of the pair table and of the indices.
     pub pairs: usize,
     pub indices: usize,
+    // Whether the highest bit of an index is a mark.
+    pub marks: bool,
 }
 
 pub enum ReadCsgp {

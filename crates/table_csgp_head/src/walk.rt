@@ -50,6 +50,7 @@ pub fn pattern_at(s: &[u8], head: CsgpHead, here: PatternsAt) -> PatternAt
         count: pair.count,
         width: head.index_width,
         indices: here.indices,
+        marks: head.marks,
     }
 }
 

@@ -9,8 +9,9 @@ use lib.Dec.{ltb, eqb}
 use lib.ListN.{length}
 use lib.Pow.{pow-mono}
 use Rattle.base_fields.specs.Answer.{given, inputLimit}
-use Rattle.base_fields.specs.Number.{bitAt, bitsAt}
+use Rattle.base_fields.specs.Number.{bitsAt}
 use Rattle.base_fields.proofs.Answers.{given-inj, given-first, given-past}
+use Rattle.base_fields.proofs.Bits.{bits-below}
 use Rattle.table_front.specs.Front.{countOf}
 use Rattle.table_front.specs.declared.TableKind.the-variants.{Sbgp, Csgp}
 use Rattle.table_front.proofs.Fronts.{front-given}
@@ -33,15 +34,10 @@ module _ (s : List ℕ) where
       let n : length (t .rows) ≡ countOf Sbgp s = rw (← (given-inj (rows .1))) (readRows-length (countOf Sbgp s) s (rowsPlace s)) in
       omega (arith, n, ltb-false (length s) (rowsPlace s + 8 * countOf Sbgp s) (rows .0), front .0 .short)
 
-  bits-below : (w p : ℕ) → bitsAt w s p < 2 ^ w
-  unfolding bitsAt bitAt
-  bits-below zero p = omega arith
-  bits-below (suc w) p = rw pow-suc (omega (arith, bits-below w p))
-
   count-small : (p : ℕ) → bitsAt (countWidth s) s p ≤ 4294967295
   count-small p =
       let m : 2 ^ countWidth s ≤ 2 ^ 32 = pow-mono (widths s .count .1) in
-      omega (arith, bits-below (countWidth s) p, m)
+      omega (arith, bits-below (countWidth s) s p, m)
 
   -- the samples of pairs
   unfoldable counted : List Pair → ℕ

@@ -1,3 +1,4 @@
+pub mod Marks
 pub mod Indices
 pub mod Runs
 pub mod Words

@@ -1,10 +1,12 @@
 -- Runs: one index, one more of the same, and a run of a pattern's indices as one of its samples.
 use mathlib.Core.Path.{_≡_, ap, sym, _∙_}
-use Prim.Native.Nat.{ℕ, _+_, _-_, _*_, _%_, _≤_, _<_}
+use Prim.Native.Nat.{ℕ, _+_, _-_, _*_, _%_, _^_, _≤_, _<_}
 use native.Mathlib.Nat.{add-zero, mul-suc, mul-le-mul-left, mod-lt, mod-add-mod, mod-eq-of-lt}
 use native.Mathlib.Omega.{arith}
 use borrow.Author.Count.{below-more}
+use mathlib.Core.Bool.{Bool}
 use mathlib.Core.List.{List}
+use Rattle.base_fields.proofs.Bits.{bits-below}
 use Rattle.table_rows.proofs.Samples.{samplesFrom-run}
 use Rattle.table_patterns.specs.Place.{indexValue, fieldNumber, indexNumber, patternIn}
 use Rattle.table_patterns.specs.Run.{GivesRun, AlikeIndices}
@@ -35,9 +37,14 @@ module _ (index : ℕ → ℕ) (k end : ℕ) where
       }
 
 -- alike fields hold alike indices
-pub run-valued : (width place k end : ℕ) (s : List ℕ) (r : Run) {v : ℕ} → AlikeIndices (fieldNumber width s place) k end r → v ≡ indexValue (r .index) →
-    AlikeIndices (indexNumber width s place) k end (record { count = r .count; index = v })
-run-valued width place k end s r t e = record { some = t .some; within = t .within; same = λ j l. ap indexValue (t .same j l) ∙ sym e }
+pub run-valued : (marks : Bool) (width place k end : ℕ) (s : List ℕ) (r : Run) {v : ℕ} → AlikeIndices (fieldNumber width s place) k end r →
+    v ≡ indexValue marks width (r .index) → AlikeIndices (indexNumber marks width s place) k end (record { count = r .count; index = v })
+run-valued marks width place k end s r t e =
+    record { some = t .some; within = t .within; same = λ j l. ap (indexValue marks width) (t .same j l) ∙ sym e }
+
+-- and fit their width
+pub run-fits : (width place k end : ℕ) (s : List ℕ) (r : Run) → AlikeIndices (fieldNumber width s place) k end r → r .index < 2 ^ width
+run-fits width place k end s r t = rw (← (t .same 0 (t .some))) (bits-below width s _)
 
 -- a sample's place in a pattern of n indices, where the pattern does not end before it
 pub mod-step : (k j n : ℕ) → k % n + j < n → (k + j) % n ≡ k % n + j
@@ -69,8 +76,8 @@ module _ (index : ℕ → ℕ) (n k count : ℕ) (pos : 0 < n) where
       }
 
 -- alike indices are a run of the pattern's samples
-pub gives-run : (s : List ℕ) (p : PatternAt) (k : ℕ) (r : Run) → 0 < p .length → AlikeIndices (λ i. indexNumber (p .width) s (p .indices) (i % p .length)) k (p .count) r →
-    GivesRun (patternIn s p) k r
+pub gives-run : (s : List ℕ) (p : PatternAt) (k : ℕ) (r : Run) → 0 < p .length →
+    AlikeIndices (λ i. indexNumber (p .marks) (p .width) s (p .indices) (i % p .length)) k (p .count) r → GivesRun (patternIn s p) k r
 gives-run s p k r h t =
     record {
       some = t .some;

@@ -3,12 +3,13 @@
 pub mod run;
 
 ghost use mathlib.Core.Path.{_≡_};
-ghost use Prim.Native.Nat.{_+_, _≤_, _<_, min};
+ghost use Prim.Native.Nat.{_+_, _^_, _≤_, _<_, min};
 ghost use lib.ListN.{getD};
 ghost use Rattle.base_fields.specs.Number.{fieldBound};
 ghost use Rattle.table_patterns.specs.Place.{indexValue, indexField, bitCount, patternIn, Stands};
 use base_fields::late_bits;
 use base_ids::DescriptionIndex;
+use base_ids::LOCAL_MARK;
 use base_ids::PatternCount;
 
 pub struct PatternAt {
@@ -19,19 +20,26 @@ pub struct PatternAt {
     // The bits of an index, and the bit place of the first one.
     pub width: u32,
     pub indices: usize,
+    // Whether the highest bit of an index is a mark.
+    pub marks: bool,
 }
 
-// The index that the bits of one of a pattern's fields hold.
+// The index that the bits of one of a pattern's fields hold: where there are marks, the highest bit goes to bit 31.
 fn index_value(bits: u32, pattern: PatternAt) -> u32
-    ensures { λ r. ⌜ (r ≡ indexValue bits) × (r < fieldBound) ⌝ }
+    requires { ⌜ (1 ≤ pattern .width) × (pattern .width ≤ 32) × (bits < 2 ^ pattern .width) ⌝ }
+    ensures { λ r. ⌜ (r ≡ indexValue (pattern .marks) (pattern .width) bits) × (r < fieldBound) ⌝ }
 {
+    if pattern.marks {
+        let low = 1u32 << (pattern.width - 1);
+        return bits / low * LOCAL_MARK + bits % low;
+    }
     bits
 }
 
 // The index at a bit place, which is that of one of a pattern's fields.
 pub fn read_index(s: &[u8], at: usize, pattern: PatternAt) -> u32
     requires { ⌜ (Stands (now s) pattern) × (pattern .indices ≤ at) × (at + pattern .width ≤ bitCount (now s)) ⌝ }
-    ensures { λ r. ⌜ (r ≡ indexField (pattern .width) (now (s .entry)) at) × (r < fieldBound) ⌝ }
+    ensures { λ r. ⌜ (r ≡ indexField (pattern .marks) (pattern .width) (now (s .entry)) at) × (r < fieldBound) ⌝ }
 {
     index_value(late_bits(s, at, pattern.width), pattern)
 }

@@ -41,7 +41,7 @@ next-place p first k at h e =
 
 -- a sample's index stands at its turn in the period
 pub turn-index : (s : List ℕ) (p : PatternAt) (first k at : ℕ) → 0 < p .length → first ≤ k → first % p .length + (k - first) < p .length →
-    at ≡ p .indices + p .width * (first % p .length + (k - first)) → indexIn (patternIn s p) k ≡ indexField (p .width) s at
+    at ≡ p .indices + p .width * (first % p .length + (k - first)) → indexIn (patternIn s p) k ≡ indexField (p .marks) (p .width) s at
 turn-index s p first k at pos l h e =
     let parts : first + (k - first) ≡ k = omega arith in
     let turn : k % p .length ≡ first % p .length + (k - first) = rw parts at (mod-step first (k - first) (p .length) h) in

@@ -39,7 +39,7 @@ pub next-run : (s : List ℕ) (pattern : PatternAt) (at : ReplayState) {run : Ru
 next-run s pattern at w g =
     record {
       some = w .some;
-      indices = sym (indices-length (pattern .width) s (pattern .length) (pattern .indices));
+      indices = sym (indices-length (pattern .marks) (pattern .width) s (pattern .length) (pattern .indices));
       count = refl;
       run = g;
     }

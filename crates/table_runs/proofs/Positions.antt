@@ -22,7 +22,7 @@ unfolding WholeFrom patternsFrom
 filled-patterns zero s p q w = tt
 filled-patterns (suc n) s p q w =
     let at = placeAt s p q in
-    (rw (indices-length (at .width) s (at .length) q) (w .1 .some), filled-patterns n s (pairBehind s p) (indicesBehind s p q) (w .2))
+    (rw (indices-length (at .marks) (at .width) s (at .length) q) (w .1 .some), filled-patterns n s (pairBehind s p) (indicesBehind s p q) (w .2))
 
 pub filled-ahead : (s : List ℕ) (t : SampleTable) (here : PatternsAt) → WholeIn s t here → Filled (aheadIn s t here)
 filled-ahead s (table.Rows h) here w = filled-single (readRows (here .left) s (here .pair))

@@ -40,7 +40,7 @@ module _ (s : List ℕ) (here : PatternsAt) (some : here .left ≡ 0 → ⊥) wh
   row-step h b w =
       let positive : 0 < here .left = omega arith in
       record {
-        stands = record { narrow = omega arith; some = omega arith; late = omega arith; inside = omega (arith, w .0); short = w .1 };
+        stands = record { wide = omega arith; narrow = omega arith; some = omega arith; late = omega arith; inside = omega (arith, w .0); short = w .1 };
         first = rw (rows-first (here .left) s (here .pair) positive, row-pattern s (here .pair) b) refl;
         whole = (omega (arith, w .0), w .1);
         fewer = omega arith;

@@ -1,5 +1,6 @@
 -- The patterns ahead of a place in a table's payload.
 use mathlib.Core.Path.{_≡_}
+use mathlib.Core.Bool.{false}
 use Prim.Native.Nat.{ℕ, _+_, _*_, _≤_, _<_}
 use mathlib.Core.List.{List, [], _∷_, map}
 use lib.ListN.{length}
@@ -24,7 +25,7 @@ use Rattle.table_runs.specs.declared.NextPattern.the-variants as next
 
 -- the row at byte place p, as a pattern of one index
 abbrev pub rowPlace : List ℕ → ℕ → PatternAt
-rowPlace s p = record { length = 1; count = beAt 4 s p; width = 32; indices = 8 * (p + 4) }
+rowPlace s p = record { length = 1; count = beAt 4 s p; width = 32; indices = 8 * (p + 4); marks = false }
 
 -- of rows, `pair` is the byte place of the next one
 abbrev pub allIn : SampleTable → PatternsAt

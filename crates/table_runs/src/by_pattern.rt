@@ -38,6 +38,7 @@ fn row_at(s: &[u8], at: usize) -> PatternAt
         count: read_u32(s, at),
         width: 32,
         indices: 8 * (at + 4),
+        marks: false,
     }
 }
 

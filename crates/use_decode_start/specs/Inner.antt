@@ -46,7 +46,7 @@ begunBefore o n = bind o (begin (negsuc n))
 
 -- a pattern's first n samples, at the same place
 abbrev pub cutPlace : ℕ → PatternAt → PatternAt
-cutPlace n p = record { length = p .length; count = min n (p .count); width = p .width; indices = p .indices }
+cutPlace n p = record { length = p .length; count = min n (p .count); width = p .width; indices = p .indices; marks = p .marks }
 
 -- the distance of an index, from the sgpd's payload s
 abbrev pub distanceIn : ℕ → List ℕ → ℕ → Option ℤ

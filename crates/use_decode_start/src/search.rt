@@ -31,6 +31,7 @@ fn cut_pattern(pattern: PatternAt, left: u64) -> PatternAt
         count: least(left, pattern.count as u64) as PatternCount,
         width: pattern.width,
         indices: pattern.indices,
+        marks: pattern.marks,
     }
 }
 

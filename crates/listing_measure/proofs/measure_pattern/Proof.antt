@@ -30,7 +30,7 @@ module _ (c : tie.After-run-at Inv-loop μ-loop) where
   p = patternIn (start .args .table-s .now) (start .args .pattern)
 
   size : start .args .pattern .length ≡ length (p .indices)
-  size = sym (indices-length (start .args .pattern .width) (start .args .table-s .now) (start .args .pattern .length) (start .args .pattern .indices))
+  size = sym (indices-length (start .args .pattern .marks) (start .args .pattern .width) (start .args .table-s .now) (start .args .pattern .length) (start .args .pattern .indices))
 
 -- it is entered
 module _ (c : tie.After-enter-run Inv-loop μ-loop) where

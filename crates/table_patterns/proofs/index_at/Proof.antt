@@ -31,7 +31,7 @@ returns c =
     let start = c .before .before .before .before in
     let a = start .args in
     let p = a .pattern in
-    c .read-index .ensures .0 ∙ sym (indices-at (p .width) (a .s .now) (p .length) (p .indices) (a .position) (start .pre .1))
+    c .read-index .ensures .0 ∙ sym (indices-at (p .marks) (p .width) (a .s .now) (p .length) (p .indices) (a .position) (start .pre .1))
 
 pub index-at-spec : {M : Type 1} → statement M
 index-at-spec = tie.close (tie.spec cast-at mul-at add-at read-index-requires returns)

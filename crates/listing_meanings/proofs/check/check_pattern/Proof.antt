@@ -35,7 +35,7 @@ module _ (c : tie.At-loop Inv-loop μ-loop) where
   indices = patternIn (start .args .table-s .now) (start .args .pattern) .indices
 
   sized : length indices ≡ start .args .pattern .length
-  sized = let p = start .args .pattern in indices-length (p .width) (start .args .table-s .now) (p .length) (p .indices)
+  sized = let p = start .args .pattern in indices-length (p .marks) (p .width) (start .args .table-s .now) (p .length) (p .indices)
 
 -- where the index at position i is checked
 module _ (c : tie.After-check-index Inv-loop μ-loop) where

@@ -47,10 +47,13 @@ add-t14 c =
     let start = lengths .before .before .before in
     omega (arith, fields-small (start .args .front .count) (lengths .field-width .result + counts .field-width2 .result) (omega arith) (omega arith))
 
+has-marks-requires : tie.Need-has-marks-requires
+has-marks-requires c κs = search needs
+
 returns : tie.Need-returns
 returns c =
-    let lengths = c .before .before .before .before in
-    let counts = c .before .before .before in
+    let lengths = c .before .before .before .before .before in
+    let counts = c .before .before .before .before in
     let start = lengths .before .before .before in
     let f = start .pre in
     let flags = lengths .before .read-u8 .ensures .0 in
@@ -58,9 +61,10 @@ returns c =
       groupingType = f .groupingType;
       parameter = f .parameter;
       count = f .count;
-      indexBits = rw (← flags) (c .before .field-width3 .ensures .0);
+      indexBits = rw (← flags) (c .before .before .field-width3 .ensures .0);
       countBits = rw (← flags) (counts .field-width2 .ensures .0);
       lengthBits = rw (← flags) (lengths .field-width .ensures .0);
+      marked = rw (← flags) (c .has-marks .ensures);
       pairsPlace = rw (f .first) refl;
       indicesPlace = rw (← (f .count), ← (f .first), ← flags, ← (lengths .field-width .ensures .0), ← (counts .field-width2 .ensures .0)) refl;
       short = f .there .short;
@@ -82,4 +86,5 @@ head-of-spec =
     cast-t12
     mul-t13
     add-t14
+    has-marks-requires
     returns)

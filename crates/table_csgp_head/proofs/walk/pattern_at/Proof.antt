@@ -7,7 +7,7 @@ pair-at-requires : tie.Need-pair-at-requires
 pair-at-requires c κs = search needs
 
 returns : tie.Need-returns
-returns c = rw (c .pair-at .ensures, c .before .before .pre .0 .indexBits) refl
+returns c = let f = c .before .before .pre .0 in rw (c .pair-at .ensures, f .indexBits, f .marked) refl
 
 pub pattern-at-spec : {M : Type 1} → statement M
 pattern-at-spec = tie.close (tie.spec pair-at-requires returns)

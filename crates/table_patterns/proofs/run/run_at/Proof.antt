@@ -7,7 +7,7 @@ use borrow.Author.Needs.{needs}
 use Rattle.table_patterns.specs.Place.{indexNumber}
 use Rattle.table_patterns.specs.Run.{AlikeIndices}
 use Rattle.table_patterns.specs.declared.PatternAt.{PatternAt}
-use Rattle.table_patterns.proofs.Runs.{run-valued, run-part, run-all, gives-run}
+use Rattle.table_patterns.proofs.Runs.{run-valued, run-fits, run-part, run-all, gives-run}
 use Rattle.table_patterns.proofs.run.run_at.Statement.{statement}
 use Rattle.table_patterns.proofs.run.run_at.Tie as tie
 
@@ -47,7 +47,10 @@ alike-indices-requires c κs =
     (start .pre .0 .narrow, start .pre .0 .late, omega (arith, start .pre .1), omega (arith, mul-le-mul-left (p .width) h, start .pre .0 .inside), start .pre .0 .short)
 
 index-value-requires : tie.Need-index-value-requires
-index-value-requires c κs = search needs
+index-value-requires c κs =
+    let start = entry (c .before) in
+    let p = start .args .pattern in
+    (start .pre .0 .wide, start .pre .0 .narrow, run-fits (p .width) (p .indices) _ _ (start .args .s .now) _ (c .alike-indices .ensures))
 
 -- the run of indices that was found, up to its end in the period
 module _ (c : tie.After-index-value) where
@@ -61,14 +64,14 @@ module _ (c : tie.After-index-value) where
   place = start .args .pattern
 
   abbrev index : ℕ → ℕ
-  index = indexNumber (place .width) (start .args .s .now) (place .indices)
+  index = indexNumber (place .marks) (place .width) (start .args .s .now) (place .indices)
 
   abbrev stop : ℕ
   stop = turn start + found .before .least .result
 
   alike : AlikeIndices index (turn start) stop (record { count = found .alike-indices .result .count; index = c .index-value .result })
   alike =
-      run-valued (place .width) (place .indices) (turn start) stop (start .args .s .now) (found .alike-indices .result) (found .alike-indices .ensures)
+      run-valued (place .marks) (place .width) (place .indices) (turn start) stop (start .args .s .now) (found .alike-indices .result) (found .alike-indices .ensures)
       (c .index-value .ensures .0)
 
 returns : tie.Need-returns

@@ -49,7 +49,7 @@ module _ (c : tie.At-loop Inv-loop μ-loop) where
   indices = patternIn (start .args .table-s .now) pattern .indices
 
   sized : length indices ≡ pattern .length
-  sized = indices-length (pattern .width) (start .args .table-s .now) (pattern .length) (pattern .indices)
+  sized = indices-length (pattern .marks) (pattern .width) (start .args .table-s .now) (pattern .length) (pattern .indices)
 
   abbrev behind : ℕ → Option ℕ
   behind = bestBehind distance (start .args .wanted) (start .args .start) (pattern .count) (pattern .length) indices

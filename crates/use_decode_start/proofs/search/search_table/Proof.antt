@@ -95,7 +95,7 @@ search-pattern-requires c κs =
     let l = at known in
     let st = step known .stands in
     let stands = subst (λ (p : PatternAt). Stands (start l .args .table-s .now) p) (sym (c .cut-pattern .ensures))
-    (record { narrow = st .narrow; some = st .some; late = st .late; inside = st .inside; short = st .short }) in
+    (record { wide = st .wide; narrow = st .narrow; some = st .some; late = st .late; inside = st .inside; short = st .short }) in
     (stands, start l .pre .1, start l .pre .2, start l .pre .3, omega (arith, l .loop .inv .1, start l .pre .3))
 
 enum-known-b : tie.Need-enum-known-b Inv-loop μ-loop
