@@ -6,3 +6,4 @@ pub mod Marked
 pub mod Placed
 pub mod ByNumber
 pub mod Numbered
+pub mod Few

@@ -4,3 +4,4 @@ pub mod Large
 pub mod Checked
 pub mod Ahead
 pub mod Numbered
+pub mod Examples
