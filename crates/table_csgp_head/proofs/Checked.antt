@@ -10,7 +10,7 @@ use Rattle.table_front.specs.Front.{hasParameter}
 use Rattle.table_front.proofs.Fronts.{front-rest}
 use Rattle.table_front.specs.declared.TableKind.the-variants.{Csgp}
 use Rattle.table_patterns.specs.Place.{bitCount, patternIn, Stands}
-use Rattle.table_csgp_head.specs.Csgp.{indexWidth, countWidth, lengthWidth, patternCount, streamPlace, indexPlace, readPairs, readIndices, readPatterns, readFrom, readAll, csgp}
+use Rattle.table_csgp_head.specs.Csgp.{countWidth, lengthWidth, patternCount, streamPlace, indexPlace, readPairs, readIndices, readPatterns, readFrom, readAll, csgp}
 use Rattle.table_csgp_head.specs.Head.{Fixed, placeAt, pairBehind, indicesBehind, patternsFrom, WholeFrom, Read, allPatterns, patternsBehind, CsgpLaid, pairRead}
 use Rattle.table_csgp_head.specs.Indices.{IndicesRead}
 use Rattle.table_csgp_head.specs.declared.CsgpHead.{CsgpHead}
@@ -86,7 +86,15 @@ module _ (s : List ℕ) (h : CsgpHead) (f : Fixed s h) where
           more = first ∙ ahead-more s (here .left - 1) (here .pair) (here .indices) fits d e
 
           stands : Stands s (placeAt s (here .pair) (here .indices))
-          stands = record { wide = omega (arith, widths s .index .0); narrow = widths s .index .1; some = omega arith; late = omega (arith, c .late); inside = e .inside; short = f .short }
+          stands =
+              record {
+                wide = omega (arith, widths s .index .0);
+                narrow = widths s .index .1;
+                some = omega arith;
+                late = omega (arith, c .late);
+                inside = e .inside;
+                short = f .short;
+              }
 
           read-more : Read (here .left - 1) s (pairBehind s (here .pair)) (indicesBehind s (here .pair) (here .indices)) → Read (here .left) s (here .pair) (here .indices)
           unfolding WholeFrom patternsFrom

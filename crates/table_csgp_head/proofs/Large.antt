@@ -12,7 +12,7 @@ use Rattle.base_fields.specs.Number.{beAt, bitAt, bitsAt}
 use Rattle.base_fields.proofs.Bytes.{beAt-one}
 use Rattle.base_fields.proofs.Bits.{bits-below, bits-highest}
 use Rattle.base_ids.specs.Limits.{localMark}
-use Rattle.table_csgp_head.specs.Csgp.{hasMarks, indexWidth, tooLarge}
+use Rattle.table_csgp_head.specs.Csgp.{hasMarks, indexWidth}
 use Rattle.table_csgp_head.specs.Head.{Fixed}
 use Rattle.table_csgp_head.specs.Indices.{canBeLarge, GivesHighest, GivesLarge}
 use Rattle.table_csgp_head.specs.declared.CsgpHead.{CsgpHead}

@@ -67,16 +67,19 @@ module _ (s : List ℕ) where
   large-next q j h = let z : q + indexWidth s * suc j ≡ q + indexWidth s + indexWidth s * j = omega (arith, mul-suc (indexWidth s) j) in rw z at h
 
   -- indices that fit, none of them too large, are read
-  pub indices-fit : (n q : ℕ) → q + indexWidth s * n ≤ bitCount s → GivesLarge s q n false → readIndices n s q ≡ given (indicesAt (hasMarks s) (indexWidth s) n s q)
+  pub indices-fit : (n q : ℕ) → q + indexWidth s * n ≤ bitCount s → GivesLarge s q n false →
+      readIndices n s q ≡ given (indicesAt (hasMarks s) (indexWidth s) n s q)
   unfolding readIndices indicesAt
   indices-fit zero q h g = refl
   indices-fit (suc n) q h g =
       let m = mul-suc (indexWidth s) n in
       let a : q + indexWidth s ≤ bitCount s = omega arith in
-      rw (le-ltb _ _ a, large-first q (g 0 (omega arith)), indices-fit n (q + indexWidth s) (omega arith) (λ j l. large-next q j (g (suc j) (omega arith)))) refl
+      let rest = indices-fit n (q + indexWidth s) (omega arith) (λ j l. large-next q j (g (suc j) (omega arith))) in
+      rw (le-ltb _ _ a, large-first q (g 0 (omega arith)), rest) refl
 
   -- m indices fit, none of them too large, and the next is cut
-  pub indices-cut : (n m q : ℕ) → m < n → q + indexWidth s * m ≤ bitCount s → bitCount s < q + indexWidth s * suc m → GivesLarge s q m false → readIndices n s q ≡ refused 27
+  pub indices-cut : (n m q : ℕ) → m < n → q + indexWidth s * m ≤ bitCount s → bitCount s < q + indexWidth s * suc m → GivesLarge s q m false →
+      readIndices n s q ≡ refused 27
   unfolding readIndices
   indices-cut zero m q l u v g = absurd (omega arith)
   indices-cut (suc n) zero q l u v g =
@@ -86,7 +89,9 @@ module _ (s : List ℕ) where
       let c = mul-suc (indexWidth s) m in
       let d = mul-suc (indexWidth s) (suc m) in
       let a : q + indexWidth s ≤ bitCount s = omega arith in
-      rw (le-ltb _ _ a, large-first q (g 0 (omega arith)), indices-cut n m (q + indexWidth s) (omega arith) (omega arith) (omega arith) (λ j l. large-next q j (g (suc j) (omega arith)))) refl
+      let small : GivesLarge s (q + indexWidth s) m false = (λ j l. large-next q j (g (suc j) (omega arith))) in
+      let rest = indices-cut n m (q + indexWidth s) (omega arith) (omega arith) (omega arith) small in
+      rw (le-ltb _ _ a, large-first q (g 0 (omega arith)), rest) refl
 
   -- m indices fit, and one of them is too large
   pub indices-large : (n m q : ℕ) → m ≤ n → q + indexWidth s * m ≤ bitCount s → GivesLarge s q m true → readIndices n s q ≡ refused 67
@@ -97,10 +102,12 @@ module _ (s : List ℕ) where
       let c = mul-suc (indexWidth s) m in
       let a : q + indexWidth s ≤ bitCount s = omega arith in
       rw (le-ltb _ _ a)
-      (refuse-or (tooLarge s q) 67 _ (λ e. large-or e g (λ j k h. rw (indices-large n m (q + indexWidth s) (omega arith) (omega arith) (j, omega arith, large-next q j h)) refl)))
+      (refuse-or (tooLarge s q) 67 _ (λ e. large-or e g
+      (λ j k h. rw (indices-large n m (q + indexWidth s) (omega arith) (omega arith) (j, omega arith, large-next q j h)) refl)))
     where
       -- the first index is not too large, so one behind it is
-      large-or : {A : Type 0} → tooLarge s q ≡ false → GivesLarge s q (suc m) true → ((j : ℕ) → suc j < suc m → tooLarge s (q + indexWidth s * suc j) ≡ true → A) → A
+      large-or : {A : Type 0} → tooLarge s q ≡ false → GivesLarge s q (suc m) true →
+          ((j : ℕ) → suc j < suc m → tooLarge s (q + indexWidth s * suc j) ≡ true → A) → A
       large-or e (zero, k, h) f = let y = large-first q h in let z : _≡_ {A = ℕ} 0 1 = cc in absurd (omega arith)
       large-or e (suc j, k, h) f = f j k h
 
@@ -121,7 +128,8 @@ module _ (s : List ℕ) (n p q : ℕ) (fits : p + suc n * (lengthWidth s + count
   unfolding readPatterns
   ahead-empty e = first-of ∙ simp (eq-eqb _ _ e)
 
-  pub ahead-cut : {m : ℕ} → (pairRead s p .patternLength ≡ 0 → ⊥) → readIndices (pairRead s p .patternLength) s q ≡ refused m → readFrom (suc n) s p q ≡ refused m
+  pub ahead-cut : {m : ℕ} → (pairRead s p .patternLength ≡ 0 → ⊥) → readIndices (pairRead s p .patternLength) s q ≡ refused m →
+      readFrom (suc n) s p q ≡ refused m
   unfolding readPatterns
   ahead-cut e h = first-of ∙ simp (ne-eqb _ _ e, h)
 

@@ -1,5 +1,5 @@
 -- The index of a field with a mark: its highest bit goes to bit 31, and the bits behind it are the index (document 02, A7).
-use mathlib.Core.Path.{_≡_, ap, ap₂, _∙_}
+use mathlib.Core.Path.{_≡_}
 use Prim.Native.Nat.{ℕ, zero, suc, _+_, _-_, _*_, _/_, _%_, _^_, _≤_, _<_}
 use native.Mathlib.Nat.{pow-suc, one-mul, mod-lt, mod-eq-of-lt, div-lt-iff-lt-mul}
 use native.Mathlib.Omega.{arith}
@@ -10,15 +10,19 @@ use lib.Pow.{pow-pos, pow-mono, pow-lt}
 use Rattle.base_fields.specs.Number.{fieldBound, bitAt, bitsAt}
 use Rattle.base_fields.proofs.Bits.{bits-below, bits-highest}
 use Rattle.base_ids.specs.Limits.{localMark}
-use Rattle.table_patterns.specs.Place.{indexField}
+use Rattle.table_patterns.specs.Place.{indexValue, indexField}
+
+-- a field of a mark and the low bits behind it
+pub marked-value : (w mark low : ℕ) → low < 2 ^ (w - 1) → indexValue true w (mark * 2 ^ (w - 1) + low) ≡ mark * localMark + low
+marked-value w mark low h = rw (digits-div mark h, digits-mod mark h)
 
 -- the mark is the bit at the index's place, whatever its width
 pub marked-field : (w : ℕ) (s : List ℕ) (p : ℕ) → 1 ≤ w → indexField true w s p ≡ bitAt s p * localMark + bitsAt (w - 1) s (p + 1)
 marked-field zero s p h = absurd (omega arith)
 marked-field (suc w) s p h =
     let e : suc w - 1 ≡ w = omega arith in
-    let low = bits-below w s (p + 1) in
-    rw (e, bits-highest w s p, digits-div (bitAt s p) low, digits-mod (bitAt s p) low)
+    let bits : bitsAt (suc w) s p ≡ bitAt s p * 2 ^ (suc w - 1) + bitsAt (suc w - 1) s (p + 1) = rw e (bits-highest w s p) in
+    rw bits (marked-value (suc w) (bitAt s p) (bitsAt (suc w - 1) s (p + 1)) (bits-below (suc w - 1) s (p + 1)))
 
 -- so a marked index is 2^31 or more, also one whose low bits are 0
 pub marked-large : (w : ℕ) (s : List ℕ) (p : ℕ) → 1 ≤ w → bitAt s p ≡ 1 → localMark ≤ indexField true w s p

@@ -1,3 +1,4 @@
+-- The bits, and the index that they hold.
 use mathlib.Core.Path.{_∙_}
 use borrow.Author.Needs.{needs}
 use Rattle.table_patterns.proofs.read_index.Statement.{statement}

@@ -48,7 +48,7 @@ module _ (c : tie.After-check-indices Inv-loop μ-loop) where
   length-known = c .before
 
   told : (r : Check) → c .check-indices .result ≡ r →
-      GivesIndices (start (at-loop length-known) .args .s .now) (here length-known .indices) (pairRead (start (at-loop length-known) .args .s .now) (here length-known .pair) .patternLength) r
+      (let s = start (at-loop length-known) .args .s .now in GivesIndices s (here length-known .indices) (pairRead s (here length-known .pair) .patternLength) r)
   told r e =
       let a = start (at-loop length-known) .args in
       let q = here length-known .indices in

@@ -1,5 +1,5 @@
+-- Flag bit 7 by its value.
 use borrow.Author.Tests.{eq-eqb, ne-eqb}
-use borrow.Author.Needs.{needs}
 use Rattle.table_csgp_head.proofs.head.has_marks.Statement.{statement}
 use Rattle.table_csgp_head.proofs.head.has_marks.Tie as tie
 

@@ -1,3 +1,4 @@
+-- By the two fields of the head.
 use borrow.Author.Needs.{needs}
 use Rattle.table_csgp_head.proofs.indices.can_be_large.Statement.{statement}
 use Rattle.table_csgp_head.proofs.indices.can_be_large.Tie as tie

@@ -33,7 +33,8 @@ returns-2 c =
     let asked = c .before .before in
     let a = start asked .args in
     let there = asked .before .indices-there in
-    indices-cut (a .s .now) (a .length) (there .result) (a .place) (c .if2 .taken) (there .ensures .inside) (there .ensures .cut (c .if2 .taken)) (told asked (c .before .if1 .left))
+    indices-cut (a .s .now) (a .length) (there .result) (a .place) (c .if2 .taken) (there .ensures .inside) (there .ensures .cut (c .if2 .taken))
+    (told asked (c .before .if1 .left))
 
 returns-3 : tie.Need-returns-3
 returns-3 c =

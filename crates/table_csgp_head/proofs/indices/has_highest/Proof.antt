@@ -61,8 +61,11 @@ loop-again c =
     let at-loop = c .before .before .before in
     let a = at-loop .before .before .args in
     let i = at-loop .loop .inv in
-    let clear : bitAt (a .s .now) (a .place + 32 * at-loop .loop .i) ≡ 0 = omega (arith, highest (c .before), c .if1 .left) in
-    (omega (arith, i .0), omega (arith, c .before .before .loop-test .taken), below-more (λ (j : ℕ). bitAt (a .s .now) (a .place + 32 * j) ≡ 0) (at-loop .loop .i) (i .2) clear)
+    let clear : bitAt (a .s .now) (a .place + 32 * at-loop .loop .i) ≡ 0 = omega (arith, highest (c .before), c .if1 .left) in (
+      omega (arith, i .0),
+      omega (arith, c .before .before .loop-test .taken),
+      below-more (λ (j : ℕ). bitAt (a .s .now) (a .place + 32 * j) ≡ 0) (at-loop .loop .i) (i .2) clear,
+    )
 
 returns-2 : tie.Need-returns-2 Inv-loop μ-loop
 returns-2 c = λ j l. c .before .loop .inv .2 j (omega (arith, c .loop-test .left))

@@ -1,4 +1,5 @@
-use mathlib.Core.Path.{_≡_, sym, _∙_}
+-- Where an index can be too large, its highest bit tells; where it cannot be, none is.
+use mathlib.Core.Path.{sym, _∙_}
 use Rattle.table_csgp_head.proofs.Large.{can-be-large, none-large, highest-large}
 use Rattle.table_csgp_head.proofs.indices.has_large.Statement.{statement}
 use Rattle.table_csgp_head.proofs.indices.has_large.Tie as tie
@@ -11,7 +12,8 @@ has-highest-requires c κs =
 returns : tie.Need-returns
 returns c =
     let start = c .before .before .before in
-    highest-large (start .args .s .now) (start .args .place) (start .args .n) (c .has-highest .result) (sym (start .pre .0) ∙ c .before .if1 .taken) (c .has-highest .ensures)
+    let a = start .args in
+    highest-large (a .s .now) (a .place) (a .n) (c .has-highest .result) (sym (start .pre .0) ∙ c .before .if1 .taken) (c .has-highest .ensures)
 
 returns-2 : tie.Need-returns-2
 returns-2 c =

@@ -1,7 +1,6 @@
 -- The bits that are left hold a whole number of indices, and the next does not fit.
-use mathlib.Core.Path.{_≡_}
 use Prim.Native.Nat.{ℕ, suc, _+_, _-_, _*_, _/_, _<_, _≤_}
-use native.Mathlib.Nat.{mul-comm, mul-suc, mul-le-mul-left, div-mul-le-self, div-lt-iff-lt-mul, div-add-mod', mod-lt}
+use native.Mathlib.Nat.{mul-comm, mul-suc, div-mul-le-self, div-lt-iff-lt-mul, div-add-mod', mod-lt}
 use native.Mathlib.Omega.{arith}
 use borrow.Author.Needs.{needs}
 use Rattle.table_patterns.specs.Place.{bitCount}
