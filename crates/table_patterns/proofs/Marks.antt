@@ -29,7 +29,7 @@ pub marked-large : (w : ℕ) (s : List ℕ) (p : ℕ) → 1 ≤ w → bitAt s p 
 marked-large w s p h e = rw (marked-field w s p h, e) (omega arith)
 
 -- half of what fits in w bits
-half-width : (w : ℕ) → 1 ≤ w → 2 ^ w ≡ 2 ^ (w - 1) * 2
+pub half-width : (w : ℕ) → 1 ≤ w → 2 ^ w ≡ 2 ^ (w - 1) * 2
 half-width zero h = absurd (omega arith)
 half-width (suc w) h = let e : suc w - 1 ≡ w = omega arith in rw (e, pow-suc)
 
