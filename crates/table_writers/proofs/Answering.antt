@@ -7,16 +7,17 @@ use mathlib.Core.List.{List}
 use lib.ListN.{length}
 use Rattle.base_fields.specs.Answer.{Answer, given, refused, inFront}
 use Rattle.base_fields.specs.Number.{fieldBound}
-use Rattle.base_ids.specs.Limits.{recordLimit}
+use Rattle.base_ids.specs.Limits.{localMark, recordLimit}
 use Rattle.table_rows.specs.Row.{rowsOf, recordsIn, withinRecords}
 use Rattle.table_rows.proofs.RowAt.{rows-length}
 use Rattle.table_rows.specs.Joined.{joined}
-use Rattle.table_writing.specs.Remaining.{remaining, largestCount}
-use Rattle.table_writing.specs.Bodies.{sbgpBytes, csgpBytes}
+use Rattle.table_writing.specs.Remaining.{remaining, largestCount, marked}
+use Rattle.table_writing.specs.Bodies.{indexNeeds, flagsOf, sbgpBytes, csgpBytes}
 use Rattle.table_writing.specs.Write.{quoteSbgp, quoteCsgp, offered, writeCsgp}
 use Rattle.table_writing.proofs.Sbgp.{sbgp-length}
+use Rattle.table_writing.proofs.Marks.{low-below}
 use Rattle.table_writing.proofs.Csgp.{csgp-length}
-use Rattle.table_writers.specs.Tally.{Tallies, lengthBy}
+use Rattle.table_writers.specs.Tally.{Tallies, marksBy, needsBy, flagsBy, lengthBy}
 use Rattle.table_writers.specs.Told.{GivesWritten}
 use Rattle.table_writers.specs.declared.tally.Tally.{Tally}
 use Rattle.table_writers.specs.declared.WrittenTable.the-variants as written
@@ -65,8 +66,20 @@ module _ (l : List ℕ) where
         let small : largestCount (joined (rowsOf l)) < fieldBound = omega (arith, o .count, o .small) in
         simp (lt-leb fieldBound (largestCount (joined (rowsOf l))) small)
 
+    pub tally-low : t .low < localMark
+    tally-low = rw (o .low) (low-below (joined (rowsOf l)))
+
+    pub tally-marks : marksBy t ≡ marked (joined (rowsOf l))
+    tally-marks = rw (o .index) refl
+
+    pub tally-needs : needsBy t ≡ indexNeeds (joined (rowsOf l))
+    tally-needs = rw (o .index, o .low) refl
+
+    pub tally-flags : flagsBy t ≡ flagsOf (joined (rowsOf l))
+    tally-flags = rw (o .count, o .index, o .low) refl
+
     pub tally-length : (type : ℕ) → lengthBy t ≡ length (csgpBytes type (joined (rowsOf l)))
-    tally-length type = rw (o .rows, o .count, o .index) (sym (csgp-length type (joined (rowsOf l))))
+    tally-length type = rw (o .rows, o .count, o .index, o .low) (sym (csgp-length type (joined (rowsOf l))))
 
     pub quoted-csgp : recordsIn l ≤ recordLimit → quoteCsgp l ≡ given (lengthBy t)
     quoted-csgp h = few _ h ∙ rw remains (ap given (sym (tally-length 0)))

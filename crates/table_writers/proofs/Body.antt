@@ -3,6 +3,7 @@ use mathlib.Core.Path.{_≡_, refl, ap, _∙_}
 use Prim.Native.Nat.{ℕ, _+_, _*_, _/_, _≤_, _<_}
 use native.Mathlib.Nat.{add-mul, mul-comm, mul-left-comm}
 use native.Mathlib.Omega.{arith}
+use mathlib.Core.Bool.{Bool}
 use mathlib.Core.List.{List, [], _∷_, append-nil}
 use lib.Dec.{ltb}
 use lib.ListN.{length}
@@ -12,9 +13,10 @@ use Rattle.base_fields.specs.Number.{fieldBound}
 use Rattle.table_csgp_head.specs.Csgp.{widthOf}
 use Rattle.table_rows.specs.Row.{Row}
 use Rattle.table_writing.specs.Fields.{bitLength, bytesFrom, packed}
-use Rattle.table_writing.specs.Bodies.{body, codeFor, countCode, indexCode, flagsOf, pairFields, csgpBytes}
-use Rattle.table_writing.specs.Remaining.{largestCount, largestIndex}
+use Rattle.table_writing.specs.Bodies.{body, codeFor, countCode, indexNeeds, indexCode, flagsOf, pairFields, csgpBytes}
+use Rattle.table_writing.specs.Remaining.{largestCount, marked}
 use Rattle.table_rows.proofs.Choice.{either}
+use Rattle.table_writing.proofs.Marks.{flag-parts}
 use Rattle.table_writing.proofs.Csgp.{csgp-length}
 use Rattle.table_writing.proofs.Put.{put-free}
 use Rattle.table_writers.specs.Words.{words}
@@ -52,7 +54,7 @@ module _ (t : ℕ) (rs : List Row) (mc mi : ℕ) (cw : 4 * mc ≡ widthOf (count
     head-front : headed ≡ inFront (packed (body (flagsOf rs) t (length rs) [])) out
     head-front =
         let vs = flagsOf rs ∷ t ∷ length rs ∷ [] in
-        let small : flagsOf rs < 256 = omega (arith, code-small (largestCount rs), code-small (largestIndex rs)) in
+        let small : flagsOf rs < 256 = flag-parts (marked rs) _ _ (code-small (largestCount rs)) (code-small (indexNeeds rs)) .small in
         let bytes : packed (body (flagsOf rs) t (length rs) []) ≡ words vs = head-packed (flagsOf rs) t (length rs) [] small ∙ rw packed-none (append-nil (words vs)) in
         e ∙ rw (flags, count, bytes) (sets-front (words vs) out (omega (arith, words-length vs, space)))
 
@@ -75,7 +77,7 @@ module _ (t : ℕ) (rs : List Row) (mc mi : ℕ) (cw : 4 * mc ≡ widthOf (count
           let same : length paired ≡ length out = ap length d ∙ pairs-length mc 24 rs headed ∙ ap length e ∙ length-sets out 0 (words (f ∷ t ∷ n ∷ [])) in
           record { counts = few; room = omega (arith, space); width = lean; free = rw pairs-front (put-free _ h place out) }
 
-      pub all-put : {after : List ℕ} → after ≡ indicesPut mi h rs paired → after ≡ inFront (csgpBytes t rs) out
-      all-put {after} i =
+      pub all-put : {marks : Bool} {after : List ℕ} → marks ≡ marked rs → after ≡ indicesPut marks mi h rs paired → after ≡ inFront (csgpBytes t rs) out
+      all-put same i =
           let whole = body (flagsOf rs) t (length rs) (pairFields (4 * mc) rs) in
-          i ∙ rw (pairs-front, ← cw, ← iw) (indices-put mi out rs whole h place (omega (arith, space)))
+          i ∙ rw (same, pairs-front, ← cw, ← iw) (indices-put mi out (marked rs) rs whole h place (omega (arith, space)))

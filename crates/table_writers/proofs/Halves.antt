@@ -3,13 +3,14 @@ use mathlib.Core.Path.{_≡_, refl, ap, _∙_}
 use Prim.Native.Nat.{ℕ, zero, suc, _+_, _*_, _/_, _%_, _^_, _<_, _≤_}
 use native.Mathlib.Nat.{add-zero, mul-suc}
 use native.Mathlib.Omega.{arith}
+use mathlib.Core.Bool.{Bool}
 use mathlib.Core.List.{List, [], _∷_, _++_, append-assoc, append-nil}
 use lib.ListN.{length}
 use Rattle.base_fields.specs.Answer.{inFront}
 use Rattle.base_fields.specs.Number.{fieldBound}
 use Rattle.table_rows.specs.Row.{Row}
 use Rattle.table_writing.specs.Fields.{Field, field, bitLength, packed}
-use Rattle.table_writing.specs.Bodies.{pairFields, indexFields}
+use Rattle.table_writing.specs.Bodies.{indexBits, pairFields, indexFields}
 use Rattle.table_writing.specs.Remaining.{largest, largestCount}
 use Rattle.table_writing.specs.Output.{halfPut, numberPut}
 use Rattle.table_writing.proofs.Parts.{bitLength-both}
@@ -83,17 +84,18 @@ module _ (m : ℕ) (out : List ℕ) where
       let all : two ++ pairFields (4 * m) rs ≡ fs ++ (field 4 1 ∷ field (4 * m) (r .count) ∷ pairFields (4 * m) rs) = simp append-assoc in
       ap (λ (s : List ℕ). pairsPut m (h + 1 + m) rs s) pair ∙ pairs-put rs two (h + 1 + m) at-two (omega arith) ∙ ap (λ (gs : List Field). inFront (packed gs) out) all
 
-  pub indices-put : (rs : List Row) (fs : List Field) (h : ℕ) → bitLength fs ≡ 4 * h → h + m * length rs ≤ 2 * length out →
-      indicesPut m h rs (inFront (packed fs) out) ≡ inFront (packed (fs ++ indexFields (4 * m) rs)) out
+  pub indices-put : (marks : Bool) (rs : List Row) (fs : List Field) (h : ℕ) → bitLength fs ≡ 4 * h → h + m * length rs ≤ 2 * length out →
+      indicesPut marks m h rs (inFront (packed fs) out) ≡ inFront (packed (fs ++ indexFields marks (4 * m) rs)) out
   unfolding indicesPut indexFields bitLength
-  indices-put [] fs h place room = rw append-nil
-  indices-put (r ∷ rs) fs h place room =
-      let one = fs ++ (field (4 * m) (r .index) ∷ []) in
+  indices-put marks [] fs h place room = rw append-nil
+  indices-put marks (r ∷ rs) fs h place room =
+      let v = indexBits marks (4 * m) (r .index) in
+      let one = fs ++ (field (4 * m) v ∷ []) in
       let space = mul-suc m (length rs) in
-      let at-one : bitLength one ≡ 4 * (h + m) = omega (arith, bitLength-both fs (field (4 * m) (r .index) ∷ [])) in
-      let all : one ++ indexFields (4 * m) rs ≡ fs ++ (field (4 * m) (r .index) ∷ indexFields (4 * m) rs) = simp append-assoc in
-      ap (λ (s : List ℕ). indicesPut m (h + m) rs s) (put-number m fs h (r .index) place out (omega arith))
-      ∙ indices-put rs one (h + m) at-one (omega arith)
+      let at-one : bitLength one ≡ 4 * (h + m) = omega (arith, bitLength-both fs (field (4 * m) v ∷ [])) in
+      let all : one ++ indexFields marks (4 * m) rs ≡ fs ++ (field (4 * m) v ∷ indexFields marks (4 * m) rs) = simp append-assoc in
+      ap (λ (s : List ℕ). indicesPut marks m (h + m) rs s) (put-number m fs h v place out (omega arith))
+      ∙ indices-put marks rs one (h + m) at-one (omega arith)
       ∙ ap (λ (gs : List Field). inFront (packed gs) out) all
 
 -- a step of the two loops
@@ -105,18 +107,18 @@ module _ (n x : ℕ) {rs later : List Row} (e : rs ≡ row n x ∷ later) (m h :
   pub pairs-place : h + (1 + m) * length rs ≡ h + 1 + m + (1 + m) * length later
   pairs-place = omega (arith, ap (λ (l : List Row). (1 + m) * length l) e, mul-suc (1 + m) (length later))
 
-  pub indices-step : indicesPut m h rs out ≡ indicesPut m (h + m) later (numberPut m h x out)
+  pub indices-step : (marks : Bool) → indicesPut marks m h rs out ≡ indicesPut marks m (h + m) later (numberPut m h (indexBits marks (4 * m) x) out)
   unfolding indicesPut
-  indices-step = rw e refl
+  indices-step marks = rw e refl
 
 -- no row is left
 pub pairs-end : {rs : List Row} → rs ≡ [] → (m h : ℕ) (out : List ℕ) → pairsPut m h rs out ≡ out
 unfolding pairsPut
 pairs-end e m h out = rw e refl
 
-pub indices-end : {rs : List Row} → rs ≡ [] → (m h : ℕ) (out : List ℕ) → indicesPut m h rs out ≡ out
+pub indices-end : {rs : List Row} → rs ≡ [] → (marks : Bool) (m h : ℕ) (out : List ℕ) → indicesPut marks m h rs out ≡ out
 unfolding indicesPut
-indices-end e m h out = rw e refl
+indices-end e marks m h out = rw e refl
 
 pub place-end : {rs : List Row} → rs ≡ [] → (each h : ℕ) → h + each * length rs ≡ h
 place-end e each h = omega (arith, ap (λ (l : List Row). each * length l) e)

@@ -5,16 +5,19 @@ ghost use lib.ListN.{length};
 ghost use Rattle.base_fields.specs.Answer.{inFront};
 ghost use Rattle.base_ids.specs.Limits.{recordLimit};
 ghost use Rattle.table_rows.specs.Row.{rowsOf, recordsIn};
-ghost use Rattle.table_writing.specs.Bodies.{csgpBytes};
+ghost use Rattle.table_writing.specs.Bodies.{indexBits, csgpBytes};
 ghost use Rattle.table_rows.specs.Joined.{joined};
 ghost use Rattle.table_writers.specs.Tally.{Tallies, lengthBy};
 ghost use Rattle.table_writers.specs.Halves.{Free, PutsRuns, pairsPut, indicesPut, pairPut};
 use super::runs::NextRun;
 use super::runs::next_run;
 use super::tally::Tally;
-use super::tally::code_for;
+use super::tally::flags_of;
 use super::tally::halves_for;
+use super::tally::has_marks;
+use super::tally::index_needs;
 use super::words::put_head;
+use base_ids::LOCAL_MARK;
 use base_ids::RowNumber;
 use base_ids::SampleCount;
 use table_half_bytes::put_half;
@@ -49,17 +52,29 @@ fn put_pairs(rows: &[RowNumber], out: &mut [u8], first: usize, m: usize) -> usiz
     }
 }
 
+// The bits of an index in m half bytes: with marks, bit 31 becomes the highest of them.
+fn index_field(index: u32, m: usize, marks: bool) -> u32
+    requires { ⌜ (1 ≤ m) × (m ≤ 8) ⌝ }
+    ensures { λ r. ⌜ r ≡ indexBits marks (4 * m) index ⌝ }
+{
+    if marks {
+        let mark = 1u32 << (4 * (m as u32) - 1);
+        return index / LOCAL_MARK * mark + index % LOCAL_MARK;
+    }
+    index
+}
+
 // The indices of the rows that remain, from half byte h on.
-fn put_indices(rows: &[RowNumber], out: &mut [u8], first: usize, m: usize)
-    requires { ⌜ PutsRuns (joined (rowsOf (now rows))) m m first (now out) ⌝ }
-    ensures { λ _. ⌜ now (out .exit) ≡ indicesPut m first (joined (rowsOf (now (rows .entry)))) (now (out .entry)) ⌝ }
+fn put_indices(rows: &[RowNumber], out: &mut [u8], first: usize, m: usize, marks: bool)
+    requires { ⌜ PutsRuns (joined (rowsOf (now rows))) m m first (now out) × (1 ≤ m) ⌝ }
+    ensures { λ _. ⌜ now (out .exit) ≡ indicesPut marks m first (joined (rowsOf (now (rows .entry)))) (now (out .entry)) ⌝ }
 {
     let mut h = first;
     let mut i: usize = 0;
     loop {
         match next_run(rows, i) {
             NextRun::Run(r) => {
-                put_number(out, h, m, r.index as u64);
+                put_number(out, h, m, index_field(r.index, m, marks) as u64);
                 h = h + m;
                 i = r.next;
             }
@@ -73,10 +88,11 @@ pub fn put_csgp(grouping_type: u32, rows: &[RowNumber], t: Tally, out: &mut [u8]
     requires { ⌜ (recordsIn (now rows) ≤ recordLimit) × Tallies (joined (rowsOf (now rows))) t × (lengthBy t ≤ length (now out)) ⌝ }
     ensures { λ _. ⌜ now (out .exit) ≡ inFront (csgpBytes «grouping_type» (joined (rowsOf (now (rows .entry))))) (now (out .entry)) ⌝ }
 {
-    let flags = code_for(t.count) * 4 + code_for(t.index);
+    let flags = flags_of(t);
     let counts = halves_for(t.count);
-    let indices = halves_for(t.index);
+    let indices = halves_for(index_needs(t));
+    let marks = has_marks(t);
     put_head(out, flags, grouping_type, t.rows as u32);
     let behind = put_pairs(rows, out, 24, counts);
-    put_indices(rows, out, behind, indices);
+    put_indices(rows, out, behind, indices, marks);
 }

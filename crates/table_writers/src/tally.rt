@@ -1,14 +1,15 @@
-// What a csgp's length and codes rest on: how many rows remain, their largest count and their largest index.
+// What a csgp's length and flags rest on: how many rows remain, their largest count, their largest index, and the largest low part of an index.
 ghost use mathlib.Core.Path.{_≡_};
-ghost use Prim.Native.Nat.{_*_, _≤_, max};
-ghost use Rattle.base_ids.specs.Limits.{recordLimit};
+ghost use Prim.Native.Nat.{_*_, _<_, _≤_, max};
+ghost use Rattle.base_ids.specs.Limits.{localMark, recordLimit};
 ghost use Rattle.table_csgp_head.specs.Csgp.{widthOf};
 ghost use Rattle.table_rows.specs.Row.{rowsOf, recordsIn};
 ghost use Rattle.table_rows.specs.Joined.{joined};
 ghost use Rattle.table_writing.specs.Bodies.{codeFor};
-ghost use Rattle.table_writers.specs.Tally.{GivesTally, lengthBy, counted};
+ghost use Rattle.table_writers.specs.Tally.{GivesTally, counted, marksBy, needsBy, flagsBy, lengthBy};
 use super::runs::NextRun;
 use super::runs::next_run;
+use base_ids::LOCAL_MARK;
 use base_ids::RowNumber;
 use base_ids::SampleCount;
 
@@ -16,6 +17,8 @@ pub struct Tally {
     pub rows: usize,
     pub count: SampleCount,
     pub index: u32,
+    // the largest index without its mark
+    pub low: u32,
 }
 
 pub enum Tallied {
@@ -45,6 +48,7 @@ fn count_row(t: Tally, count: SampleCount, index: u32) -> Tally
         rows: t.rows + 1,
         count: larger_count(t.count, count),
         index: larger_index(t.index, index),
+        low: larger_index(t.low, index % LOCAL_MARK),
     }
 }
 
@@ -56,6 +60,7 @@ pub fn tally_rows(rows: &[RowNumber]) -> Tallied
         rows: 0,
         count: 0,
         index: 0,
+        low: 0,
     };
     let mut i: usize = 0;
     loop {
@@ -95,11 +100,41 @@ pub fn halves_for(n: u32) -> usize
     }
 }
 
+// Whether a row has bit 31: then every index is written with a mark.
+pub fn has_marks(t: Tally) -> bool
+    ensures { λ r. ⌜ r ≡ marksBy t ⌝ }
+{
+    t.index >= LOCAL_MARK
+}
+
+// What the width of an index has to hold: with marks, twice the low part.
+pub fn index_needs(t: Tally) -> u32
+    requires { ⌜ t .low < localMark ⌝ }
+    ensures { λ r. ⌜ r ≡ needsBy t ⌝ }
+{
+    if has_marks(t) {
+        return 2 * t.low;
+    }
+    t.index
+}
+
+// The flags: bit 7 where there are marks, and the codes.
+pub fn flags_of(t: Tally) -> u32
+    requires { ⌜ t .low < localMark ⌝ }
+    ensures { λ r. ⌜ r ≡ flagsBy t ⌝ }
+{
+    let codes = code_for(t.count) * 4 + code_for(index_needs(t));
+    if has_marks(t) {
+        return 128 + codes;
+    }
+    codes
+}
+
 // The length of the csgp.
 pub fn length_of(t: Tally) -> usize
-    requires { ⌜ t .rows ≤ recordLimit ⌝ }
+    requires { ⌜ (t .rows ≤ recordLimit) × (t .low < localMark) ⌝ }
     ensures { λ r. ⌜ r ≡ lengthBy t ⌝ }
 {
-    let halves = t.rows * (1 + halves_for(t.count) + halves_for(t.index));
+    let halves = t.rows * (1 + halves_for(t.count) + halves_for(index_needs(t)));
     12 + (halves + 1) / 2
 }

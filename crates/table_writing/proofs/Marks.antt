@@ -41,7 +41,7 @@ pub record KeptIndex (marks : Bool) (w i : ℕ) : Type 0 where
   pub small : choose marks false (leb localMark (indexBits marks w i)) ≡ false
 
 -- a mark is 0 or 1
-at-most : (mark half : ℕ) → mark < 2 → mark * half ≤ half
+pub at-most : (mark half : ℕ) → mark < 2 → mark * half ≤ half
 at-most zero half h = omega arith
 at-most (suc zero) half h = omega arith
 at-most (suc (suc mark)) half h = absurd (omega arith)

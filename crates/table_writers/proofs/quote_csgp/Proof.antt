@@ -2,7 +2,7 @@
 use mathlib.Core.Path.{sym}
 use native.Mathlib.Omega.{arith}
 use Rattle.table_writers.proofs.Walk.{remain-length}
-use Rattle.table_writers.proofs.Answering.{over, quoted-csgp, quoted-over}
+use Rattle.table_writers.proofs.Answering.{over, tally-low, quoted-csgp, quoted-over}
 use borrow.Author.Needs.{needs}
 use Rattle.table_writers.proofs.quote_csgp.Statement.{statement}
 use Rattle.table_writers.proofs.quote_csgp.Tie as tie
@@ -24,7 +24,7 @@ length-of-requires c κs =
     let told = c .before .before .before in
     let l = told .before .before .before .before .args .rows .now in
     let o = rw (c .before .t .given .1) at (told .tally-rows .ensures) in
-    omega (arith, o .rows, remain-length l, told .before .if1 .left)
+    (omega (arith, o .rows, remain-length l, told .before .if1 .left), tally-low l _ o)
 
 enum-told : tie.Need-enum-told
 enum-told c = search needs

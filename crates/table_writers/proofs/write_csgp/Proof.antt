@@ -7,7 +7,7 @@ use Rattle.table_writing.specs.Bodies.{csgpBytes}
 use Rattle.table_rows.specs.Joined.{joined}
 use Rattle.table_writing.proofs.Write.{offered-made}
 use Rattle.table_writers.proofs.Walk.{remain-length}
-use Rattle.table_writers.proofs.Answering.{gives-refused, gives-bytes, over, disagrees, shorter, offered-csgp, tally-length, written-over}
+use Rattle.table_writers.proofs.Answering.{gives-refused, gives-bytes, over, disagrees, shorter, offered-csgp, tally-low, tally-length, written-over}
 use borrow.Author.Needs.{needs}
 use Rattle.table_writers.proofs.write_csgp.Statement.{statement}
 use Rattle.table_writers.proofs.write_csgp.Tie as tie
@@ -29,7 +29,7 @@ length-of-requires c κs =
     let told = c .before .before .before in
     let l = told .before .before .before .before .before .args .rows .now in
     let o = rw (c .before .t .given .1) at (told .tally-rows .ensures) in
-    omega (arith, o .rows, remain-length l, told .before .if1 .left)
+    (omega (arith, o .rows, remain-length l, told .before .if1 .left), tally-low l _ o)
 
 returns-2 : tie.Need-returns-2
 returns-2 c =

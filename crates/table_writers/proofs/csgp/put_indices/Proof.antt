@@ -13,21 +13,26 @@ use Rattle.table_writers.proofs.csgp.put_indices.Statement.{statement}
 use Rattle.table_writers.proofs.csgp.put_indices.Tie as tie
 
 abbrev Inv-loop : tie.InvT-loop
-Inv-loop rows out₀ first m h₀ i₀ out h i =
+Inv-loop rows out₀ first m marks h₀ i₀ out h i =
     (i ≤ recordsIn rows) × PutsRuns (ahead rows i) m m h out × (length out ≡ length out₀)
-    × (indicesPut m h (ahead rows i) out ≡ indicesPut m first (joined (rowsOf rows)) out₀)
+    × (indicesPut marks m h (ahead rows i) out ≡ indicesPut marks m first (joined (rowsOf rows)) out₀)
 
 abbrev μ-loop : tie.MeasureT-loop
-μ-loop rows out₀ first m h₀ i₀ out h i = recordsIn rows - i
+μ-loop rows out₀ first m marks h₀ i₀ out h i = recordsIn rows - i
 
 loop-holds : tie.Need-loop-holds Inv-loop μ-loop
-loop-holds c = (search needs, c .before .before .pre, refl, refl)
+loop-holds c = (search needs, c .before .before .pre .0, refl, refl)
 
 next-run-requires : tie.Need-next-run-requires Inv-loop μ-loop
 next-run-requires c κs = search needs
 
 enum-known-r : tie.Need-enum-known-r Inv-loop μ-loop
 enum-known-r c = search needs
+
+index-field-requires : tie.Need-index-field-requires Inv-loop μ-loop
+index-field-requires c κs =
+    let at-loop = c .before .before .before .before .before in
+    (at-loop .before .before .before .pre .1, at-loop .loop .inv .1 .width)
 
 cast-put-number : tie.Need-cast-put-number Inv-loop μ-loop
 cast-put-number c = search needs
@@ -66,7 +71,7 @@ loop-again c =
       rw (put .put-number .ensures)
           (row-put _ _ (g .rows) (a .m) (a .m) (o .h) (o .out) (o .inv .1) _ (number-length (a .m) (o .h) _ (o .out)) (number-free (a .m) (o .h) _ (o .out) room (o .inv .1 .free))),
       rw (put .put-number .ensures) (number-length (a .m) (o .h) _ (o .out) ∙ o .inv .2),
-      rw (put .put-number .ensures) (sym (indices-step _ _ (g .rows) (a .m) (o .h) (o .out)) ∙ o .inv .3),
+      rw (put .put-number .ensures, put .before .index-field .ensures) (sym (indices-step _ _ (g .rows) (a .m) (o .h) (o .out) (a .marks)) ∙ o .inv .3),
     )
 
 enum-told : tie.Need-enum-told Inv-loop μ-loop
@@ -90,8 +95,8 @@ returns-2 : tie.Need-returns-2 Inv-loop μ-loop
 returns-2 c =
     let told = c .before .before in
     let o = told .before .loop in
-    let m = told .before .before .before .before .args .m in
-    sym (indices-end (rw (c .enum-told2 .given .1) at (told .next-run .ensures)) m (o .h) (o .out)) ∙ o .inv .3
+    let a = told .before .before .before .before .args in
+    sym (indices-end (rw (c .enum-told2 .given .1) at (told .next-run .ensures)) (a .marks) (a .m) (o .h) (o .out)) ∙ o .inv .3
 
 pub put-indices-spec : {M : Type 1} → statement M
 put-indices-spec =
@@ -102,6 +107,7 @@ put-indices-spec =
     loop-holds
     next-run-requires
     enum-known-r
+    index-field-requires
     cast-put-number
     put-number-requires
     add-h

@@ -12,8 +12,11 @@ larger-count-requires c κs = search needs
 larger-index-requires : tie.Need-larger-index-requires
 larger-index-requires c κs = search needs
 
+larger-index-requires-2 : tie.Need-larger-index-requires-2
+larger-index-requires-2 c κs = search needs
+
 returns : tie.Need-returns
-returns c = rw (c .larger-index .ensures, c .before .larger-count .ensures)
+returns c = rw (c .larger-index2 .ensures, c .before .larger-index .ensures, c .before .before .larger-count .ensures)
 
 pub count-row-spec : {M : Type 1} → statement M
-count-row-spec = tie.close (tie.spec add-t4 larger-count-requires larger-index-requires returns)
+count-row-spec = tie.close (tie.spec add-t4 larger-count-requires larger-index-requires larger-index-requires-2 returns)
