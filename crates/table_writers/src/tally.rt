@@ -123,7 +123,8 @@ pub fn flags_of(t: Tally) -> u32
     requires { ⌜ t .low < localMark ⌝ }
     ensures { λ r. ⌜ r ≡ flagsBy t ⌝ }
 {
-    let codes = code_for(t.count) * 4 + code_for(index_needs(t));
+    let needs = index_needs(t);
+    let codes = code_for(t.count) * 4 + code_for(needs);
     if has_marks(t) {
         return 128 + codes;
     }

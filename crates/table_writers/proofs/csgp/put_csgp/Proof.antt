@@ -1,6 +1,6 @@
 -- Head, pairs and indices, one behind the other (`Body`), with the widths that the tally names.
 use mathlib.Core.Path.{_≡_, ap, _∙_}
-use Prim.Native.Nat.{ℕ, _+_, _*_, _<_, _≤_}
+use Prim.Native.Nat.{ℕ, _*_, _<_, _≤_}
 use native.Mathlib.Omega.{arith}
 use mathlib.Core.List.{List}
 use lib.ListN.{length}
@@ -45,8 +45,8 @@ count-width c = counted c .halves-for .ensures .0 ∙ ap (λ (n : ℕ). widthOf 
 
 index-width : (c : Headed) → 4 * indexed c .halves-for2 .result ≡ widthOf (indexCode (rows c))
 index-width c =
-    indexed c .halves-for2 .ensures .0
-    ∙ ap (λ (n : ℕ). widthOf (codeFor n)) (indexed c .before .index-needs .ensures ∙ tally-needs (start c .args .rows .now) (start c .args .t) (start c .pre .1))
+    let needs = indexed c .before .index-needs .ensures ∙ tally-needs (start c .args .rows .now) (start c .args .t) (start c .pre .1) in
+    indexed c .halves-for2 .ensures .0 ∙ ap (λ (n : ℕ). widthOf (codeFor n)) needs
 
 room : (c : Headed) → length (csgpBytes (start c .args .grouping-type) (rows c)) ≤ length (start c .args .out .now)
 room c = omega (arith, tally-length (start c .args .rows .now) (start c .args .t) (start c .pre .1) (start c .args .grouping-type), start c .pre .2)

@@ -20,23 +20,23 @@ module _ (c : tie.After-code-for2) where
   abbrev t : Tally
   t = c .before .before .before .args .t
 
-  count-code : c .before .before .code-for .result ≡ codeFor (t .count)
-  count-code = c .before .before .code-for .ensures
+  count-code : c .before .code-for .result ≡ codeFor (t .count)
+  count-code = c .before .code-for .ensures
 
   index-code : c .code-for2 .result ≡ codeFor (needsBy t)
-  index-code = c .code-for2 .ensures ∙ ap codeFor (c .before .index-needs .ensures)
+  index-code = c .code-for2 .ensures ∙ ap codeFor (c .before .before .index-needs .ensures)
 
-  codes : c .before .before .code-for .result * 4 + c .code-for2 .result < 16
+  codes : c .before .code-for .result * 4 + c .code-for2 .result < 16
   codes = omega (arith, count-code, index-code, code-small (t .count), code-small (needsBy t))
+
+index-needs-requires : tie.Need-index-needs-requires
+index-needs-requires c κs = search needs
 
 code-for-requires : tie.Need-code-for-requires
 code-for-requires c κs = search needs
 
 mul-codes : tie.Need-mul-codes
-mul-codes c = omega (arith, c .code-for .ensures, code-small (c .before .args .t .count))
-
-index-needs-requires : tie.Need-index-needs-requires
-index-needs-requires c κs = search needs
+mul-codes c = omega (arith, c .code-for .ensures, code-small (c .before .before .args .t .count))
 
 code-for-requires-2 : tie.Need-code-for-requires-2
 code-for-requires-2 c κs = search needs
@@ -64,9 +64,9 @@ pub flags-of-spec : {M : Type 1} → statement M
 flags-of-spec =
     tie.close
     (tie.spec
+    index-needs-requires
     code-for-requires
     mul-codes
-    index-needs-requires
     code-for-requires-2
     add-codes
     has-marks-requires

@@ -55,7 +55,8 @@ returns c =
     let a = c .before .before .before .halves-for .result in
     let b = c .before .halves-for2 .result in
     let n = c .before .before .before .before .args .t .rows in
-    rw (← c .before .before .before .halves-for .ensures .0, ← c .before .before .index-needs .ensures, ← c .before .halves-for2 .ensures .0) (omega (arith, four n a b))
+    rw (← c .before .before .before .halves-for .ensures .0, ← c .before .before .index-needs .ensures, ← c .before .halves-for2 .ensures .0)
+    (omega (arith, four n a b))
 
 pub length-of-spec : {M : Type 1} → statement M
 length-of-spec =
