@@ -137,6 +137,8 @@ enum film_listing_out { FILM_LISTING_LENGTH, FILM_LISTING_ROWS };
 /* Refusals: sync and dependency tables */
 #define FILM_SYNC_TABLE_CUT 65u        /* bytes of an stss or an sdtp are missing */
 #define FILM_SYNC_NOT_RISING 66u       /* the sample numbers of an stss do not rise, or one is 0 */
+/* Refusals: marks of a csgp */
+#define FILM_INDEX_TOO_LARGE 67u       /* an index of 2^31 or more, where flag bit 7 is clear */
 
 /* Atoms. A place is counted in bytes from the first byte of `s`. */
 
@@ -172,7 +174,9 @@ uint32_t film_find_stbl(const uint8_t *s, film_size len, uint32_t track, uint64_
 /* The rows of an sbgp payload, as they are. out: grouping type, parameter (0 if absent), row count. */
 uint32_t film_parse_sbgp(const uint8_t *s, film_size len, film_row_number *rows, film_size rows_len, uint64_t out[3]);
 
-/* The rows of a csgp payload: its patterns replayed over their samples, equal neighbours joined. out as for sbgp. */
+/* The rows of a csgp payload: its patterns replayed over their samples, equal neighbours joined. Where flag bit 7 is set, the highest bit of each index at its own width says
+ * that its description is the fragment's own: a row has that mark in bit 31 and the index in its other bits (film_split_csgp_index parts them). Where the flag is clear there are
+ * no marks, and an index of 2^31 or more is FILM_INDEX_TOO_LARGE. out as for sbgp. */
 uint32_t film_parse_csgp(const uint8_t *s, film_size len, film_row_number *rows, film_size rows_len, uint64_t out[3]);
 
 /* The number of rows that an sbgp payload needs. out: that number, n. film_parse_sbgp then takes n records or more; with fewer it answers
@@ -197,7 +201,8 @@ uint32_t film_covered_samples(const film_row_number *rows, film_size rows_len, u
 uint32_t film_quote_sbgp(const film_row_number *rows, film_size rows_len, uint64_t out[1]);
 
 /* The length of the csgp that gives the same samples: rows of count 0 are dropped and like neighbours joined, each row that remains is a pattern of length 1, and the
- * widths are the narrowest that hold the largest count and the largest index. FILM_ROW_COUNT_OVER where a joined count is too large. out: the length in bytes. */
+ * widths are the narrowest that hold the largest count and the largest index; where a remaining row has bit 31, flag bit 7 is set, and the width of an index holds the other bits and
+ * the mark. FILM_ROW_COUNT_OVER where a joined count is too large. out: the length in bytes. */
 uint32_t film_quote_csgp(const film_row_number *rows, film_size rows_len, uint64_t out[1]);
 
 /* Writes that sbgp in front of the `body_len` bytes of `body`; what stands behind it stays. `quoted` is the quoted length: FILM_LENGTH_DISAGREES where the rows need another one,

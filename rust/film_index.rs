@@ -95,6 +95,7 @@ refusals! {
     OutputShorter = 64 "the output is shorter than the quoted length",
     SyncTableCut = 65 "bytes of an stss or an sdtp are missing",
     SyncNotRising = 66 "the sample numbers of an stss do not rise, or one is 0",
+    IndexTooLarge = 67 "an index of a csgp of 2^31 or more, where flag bit 7 is clear",
 }
 
 impl Refusal {

@@ -6,8 +6,10 @@ use super::random::Random;
 use super::tables::{self, Readers};
 use super::tally::Tally;
 use super::vectors::Vectors;
+use super::listing;
 use crate::film_index::ROW_NUMBERS;
-use crate::sample_groups;
+use crate::sample_groups::{self, SampleToGroup, SampleToGroupEntry};
+use crate::standalone::{Error, Result};
 
 pub const WIDTHS: [u32; 4] = [4, 8, 16, 32];
 
@@ -34,18 +36,20 @@ impl Bits {
     }
 }
 
-/// The codes of index, count and pattern length, and whether a parameter is there.
+/// The codes of index, count and pattern length, whether a parameter is there, and whether the highest bit of an index is a mark (flag bit 7).
 #[derive(Clone, Copy)]
 pub struct Shape {
     pub index: usize,
     pub count: usize,
     pub length: usize,
     pub parameter: bool,
+    pub marks: bool,
 }
 
 impl Shape {
+    /// Without marks.
     fn all() -> impl Iterator<Item = Shape> {
-        (0..128).map(|k| Shape { index: k % 4, count: k / 4 % 4, length: k / 16 % 4, parameter: k / 64 == 1 })
+        (0..128).map(|k| Shape { index: k % 4, count: k / 4 % 4, length: k / 16 % 4, parameter: k / 64 == 1, marks: false })
     }
 
     /// The bytes before the patterns.
@@ -71,7 +75,7 @@ pub fn payload(random: &mut Random, shape: Shape, declared: u32, patterns: &[Pat
         return None;
     }
     let flags = (shape.index | shape.count << 2 | shape.length << 4 | (shape.parameter as usize) << 6) as u8;
-    let mut s = vec![random.next() as u8, random.next() as u8, random.next() as u8, flags | random.pick(&[0, 128])];
+    let mut s = vec![random.next() as u8, random.next() as u8, random.next() as u8, flags | random.pick(&[(shape.marks as u8) << 7])];
     s.extend(b"rap ");
     if shape.parameter {
         s.extend((random.next() as u32).to_be_bytes());
@@ -89,8 +93,38 @@ pub fn payload(random: &mut Random, shape: Shape, declared: u32, patterns: &[Pat
     Some(s)
 }
 
-/// Whether a payload lies in the domain. The pairs are read as far as they go.
+/// Whether a payload lies in the domain: flag bit 7 is clear, no index is 2^31 or more, and lengths and counts are not too large. The pairs and the indices are read as far as
+/// they go.
 pub fn in_domain(s: &[u8]) -> bool {
+    if s.len() < 12 {
+        return s.len() < 4 || s[3] < 128;
+    }
+    expands(s) && s[3] < 128 && !(s[3] & 3 == 3 && has_large(s))
+}
+
+/// Whether an index of 32 bits is 2^31 or more, of a payload that expands.
+fn has_large(s: &[u8]) -> bool {
+    let Ok((place, lengths)) = pair_table(s) else { return false };
+    let indices = lengths.iter().map(|&length| length as usize).sum::<usize>();
+    (0..indices).map(|k| place + 32 * k).take_while(|at| at + 32 <= 8 * s.len()).any(|at| s[at / 8] >> (7 - at % 8) & 1 == 1)
+}
+
+/// The bit place behind the pairs, and the lengths of the patterns; the pairs must all be there.
+fn pair_table(s: &[u8]) -> std::result::Result<(usize, Vec<u32>), ()> {
+    let (lw, cw) = (WIDTHS[s[3] as usize >> 4 & 3] as usize, WIDTHS[s[3] as usize >> 2 & 3] as usize);
+    let at = if s[3] >> 6 & 1 == 1 { 12 } else { 8 };
+    let declared = u32::from_be_bytes(s.get(at..at + 4).ok_or(())?.try_into().unwrap()) as usize;
+    let place = 8 * (at + 4);
+    if declared.saturating_mul(lw + cw) > 8 * s.len() - place {
+        return Err(());
+    }
+    let bit = |p: usize| (s[p / 8] >> (7 - p % 8) & 1) as u32;
+    let length = |k: usize| (0..lw).fold(0, |v, b| v << 1 | bit(place + (lw + cw) * k + b));
+    Ok((place + (lw + cw) * declared, (0..declared).map(length).collect()))
+}
+
+/// Whether lengths and counts are within what the Rust expands in memory.
+pub fn expands(s: &[u8]) -> bool {
     if s.len() < 12 {
         return true;
     }
@@ -119,17 +153,63 @@ pub fn in_domain(s: &[u8]) -> bool {
     true
 }
 
+/// With the Rust where it has the same meaning; else, with flag bit 7 or an index of 2^31 or more, with a calculation of our own.
 fn compare(tally: &mut Tally, random: &mut Random, s: &[u8]) {
-    if in_domain(s) {
-        let readers = Readers {
-            payloads: "payloads of csgp",
-            entry: "parse_csgp",
-            ours: ffi::parse_csgp,
-            needed: "csgp_rows_needed",
-            ours_needed: ffi::csgp_rows_needed,
-            reference: sample_groups::parse_csgp,
-        };
-        tables::compare(tally, random, &readers, s);
+    let (payloads, reference): (_, fn(&[u8]) -> Result<SampleToGroup>) = match (in_domain(s), expands(s)) {
+        (true, _) => ("payloads of csgp", sample_groups::parse_csgp),
+        (false, true) => ("payloads of csgp with marks or large indices", by_document),
+        (false, false) => return,
+    };
+    let readers =
+        Readers { payloads, entry: "parse_csgp", ours: ffi::parse_csgp, needed: "csgp_rows_needed", ours_needed: ffi::csgp_rows_needed, reference };
+    tables::compare(tally, random, &readers, s);
+}
+
+/// Part 4 of document 01 with A7 of document 02, sample by sample.
+pub fn by_document(s: &[u8]) -> Result<SampleToGroup> {
+    let refused = |n: u32| Error::invalid(format!("document {n}"));
+    if s.len() < 8 {
+        return Err(refused(20));
+    }
+    let patterns = listing::patterns(s).map_err(refused)?;
+    let grouping_type_parameter = if s[3] >> 6 & 1 == 1 { u32::from_be_bytes(s[8..12].try_into().unwrap()) } else { 0 };
+    let mut entries: Vec<SampleToGroupEntry> = Vec::new();
+    for (count, indices) in patterns {
+        for k in 0..count as usize {
+            let group_description_index = indices[k % indices.len()];
+            match entries.last_mut() {
+                Some(row) if row.group_description_index == group_description_index => row.sample_count += 1,
+                _ => entries.push(SampleToGroupEntry { sample_count: 1, group_description_index }),
+            }
+        }
+    }
+    Ok(SampleToGroup { grouping_type: s[4..8].try_into().unwrap(), grouping_type_parameter, entries })
+}
+
+/// Indices of every width with and without their mark, low bits of 0, 1 and all ones, in patterns around every wrap, whole and cut at every byte; and 32-bit indices of 2^31 and
+/// more without marks, at every position, used by a sample or not, before a length of 0 and before a cut.
+fn marked(tally: &mut Tally, random: &mut Random) {
+    for index in 0..4 {
+        let top = 1u32 << (WIDTHS[index] - 1);
+        let some = [0, 1, 2, top - 1, top, top | 1, top | 2, top | (top - 1)];
+        for length in 1..=5u32 {
+            for count in (0..=2 * length + 2).chain([15]) {
+                for _ in 0..60 {
+                    let marks = index < 3 || random.one_in(2);
+                    let shape = Shape { index, count: random.below(4) as usize, length: random.below(4) as usize, parameter: random.one_in(3), marks };
+                    let mut pick = |n: u32| -> Vec<u32> { (0..n).map(|_| random.pick(&some)).collect() };
+                    let [first, second] = [pick(length), pick(2)];
+                    let behind = random.pick(&[0, 2, 2, 2]);
+                    let patterns = [(length, count, first), (behind, random.below(6) as u32, second)];
+                    let s = payload(random, shape, 2, &patterns).unwrap();
+                    compare(tally, random, &s);
+                    for _ in 0..4 {
+                        let len = random.below(s.len() as u64) as usize;
+                        compare(tally, random, &s[..len]);
+                    }
+                }
+            }
+        }
     }
 }
 
@@ -159,7 +239,7 @@ fn wraps(tally: &mut Tally, random: &mut Random) {
 /// Random patterns, joined across their seams, some damaged.
 fn mixed(tally: &mut Tally, random: &mut Random) {
     for _ in 0..1_000_000 {
-        let shape = Shape { index: random.below(4) as usize, count: random.below(4) as usize, length: random.below(4) as usize, parameter: random.one_in(3) };
+        let shape = Shape { index: random.below(4) as usize, count: random.below(4) as usize, length: random.below(4) as usize, parameter: random.one_in(3), marks: false };
         let patterns: Vec<Pattern> = (0..random.below(6))
             .map(|_| {
                 let length = random.below(7) as u32;
@@ -189,7 +269,7 @@ fn large(tally: &mut Tally, random: &mut Random) {
         let base = random.next() as u32 / 2;
         let indices: Vec<u32> = (0..length).map(|_| base.wrapping_add(random.below(kinds) as u32)).collect();
         let count = random.pick(&[1, 999_999, MOST, length, length + 1, 2 * length - 1]).min(MOST);
-        let shape = Shape { index: 3, count: 3, length: 3, parameter: false };
+        let shape = Shape { index: 3, count: 3, length: 3, parameter: false, marks: false };
         let s = payload(random, shape, 1, &[(length, count, indices)]).unwrap();
         compare(tally, random, &s);
     }
@@ -241,7 +321,7 @@ fn mebibytes(tally: &mut Tally, random: &mut Random) {
 /// Many periods, between patterns that their rows join, with every number of records up to enough: it runs out in each of the periods that
 /// are passed in one step, too.
 fn periods(tally: &mut Tally, random: &mut Random) {
-    let shape = Shape { index: 1, count: 2, length: 1, parameter: false };
+    let shape = Shape { index: 1, count: 2, length: 1, parameter: false, marks: false };
     for length in 1..=6u32 {
         for round in 0..60 {
             let kinds = 1 + round % 3;
@@ -269,6 +349,7 @@ pub fn run(tally: &mut Tally) {
     wraps(tally, &mut random);
     mixed(tally, &mut random);
     periods(tally, &mut random);
+    marked(tally, &mut Random::new(67));
 }
 
 /// The part that takes long inputs.
@@ -278,7 +359,7 @@ pub fn run_long(tally: &mut Tally) {
     mebibytes(tally, &mut random);
 }
 
-const WIDE: Shape = Shape { index: 1, count: 3, length: 1, parameter: false };
+const WIDE: Shape = Shape { index: 1, count: 3, length: 1, parameter: false, marks: false };
 
 pub fn vectors(out: &mut Vectors) {
     let mut random = Random::new(8);
@@ -337,6 +418,28 @@ pub fn document(out: &mut Vectors) {
     add(2, &[(3, most, vec![4, 4, 4])], Answer::Given(vec![rap, 0, 1, most as u64, 4]));
     add(4, &[(2, 2, vec![1, 2]), (1, most, vec![2])], Answer::Refused(28));
     add(0, &[(1, 0, vec![1])], Answer::Given(vec![rap, 0, 0]));
+    // A7: marks of every width, low bits of 0 too; 67 in the order of the indices, used by a sample or not, before 26 and 27 of a later pattern, after 27 of its own
+    let mut add_shape = |shape: Shape, cut: usize, patterns: &[Pattern]| {
+        let s = payload(&mut Random::new(10), shape, patterns.len() as u32, patterns).unwrap();
+        let s = &s[..s.len() - cut];
+        tables::sample(out, 6, s, 0, by_document(s));
+    };
+    for index in 0..4 {
+        let top = 1 << (WIDTHS[index] - 1);
+        let shape = Shape { index, marks: true, ..WIDE };
+        add_shape(shape, 0, &[(4, 9, vec![top, 0, top | 1, top - 1])]);
+        add_shape(shape, 0, &[(2, 4, vec![top | (top - 1), 1]), (1, 2, vec![1])]);
+    }
+    let large = Shape { index: 3, ..WIDE };
+    let top = 1 << 31;
+    add_shape(large, 0, &[(1, 1, vec![top - 1])]);
+    add_shape(large, 0, &[(1, 1, vec![top])]);
+    add_shape(large, 0, &[(2, 1, vec![1, top])]);
+    add_shape(large, 0, &[(1, 0, vec![u32::MAX]), (0, 1, vec![])]);
+    add_shape(large, 0, &[(0, 1, vec![]), (1, 0, vec![top])]);
+    add_shape(large, 1, &[(2, 2, vec![top, top])]);
+    add_shape(large, 1, &[(1, 2, vec![top])]);
+    add_shape(Shape { marks: true, ..large }, 0, &[(1, 2, vec![top])]);
     let mut add_count = |patterns: &[Pattern], answer: Answer<Vec<u64>>| {
         let s = payload(&mut random, WIDE, patterns.len() as u32, patterns).unwrap();
         out.add(22, &[], &s, answer);

@@ -68,7 +68,7 @@ pub struct Rows {
 /// So many rows are taken of a csgp that the Rust cannot expand.
 const CAP: usize = 64;
 
-/// The patterns of a csgp that the Rust cannot expand: sample counts and indices.
+/// The patterns of a csgp that the Rust cannot expand, or to which it gives another meaning (document 02, A7): sample counts and indices, a mark in bit 31.
 pub fn patterns(s: &[u8]) -> Result<Vec<(u32, Vec<u32>)>, u32> {
     let width = |from: u32| 4usize << (s[3] >> from & 3);
     let parameter = s[3] >> 6 & 1 == 1;
@@ -97,7 +97,13 @@ pub fn patterns(s: &[u8]) -> Result<Vec<(u32, Vec<u32>)>, u32> {
         }
         let mut indices = Vec::new();
         for _ in 0..length {
-            indices.push(field(width(0), 27)?);
+            let index = field(width(0), 27)?;
+            let mark = 1u32 << (width(0) - 1);
+            indices.push(match s[3] >> 7 {
+                1 => index % mark | (index / mark) << 31,
+                _ if index >> 31 == 1 => return Err(67),
+                _ => index,
+            });
         }
         read.push((count, indices));
     }
@@ -137,6 +143,7 @@ pub fn read_table(sources: &Sources) -> Result<Rows, u32> {
     let read = match sources.csgp {
         false => rust::parse_sbgp(s),
         true if csgp::in_domain(s) => rust::parse_csgp(s),
+        true if csgp::expands(s) => csgp::by_document(s),
         true => return Ok(replay(&patterns(s)?)),
     };
     Ok(Rows { table: read.map_err(|e| tables::number(&e))?, over: false, endless: false })
@@ -463,7 +470,7 @@ fn large(random: &mut Random) -> (Film, Vec<u8>) {
             (length, n, indices)
         };
         let patterns: Vec<csgp::Pattern> = rows.iter().map(&mut pattern).collect();
-        let shape = csgp::Shape { index: 0, count: 3, length: 0, parameter: false };
+        let shape = csgp::Shape { index: 0, count: 3, length: 0, parameter: false, marks: false };
         csgp::payload(random, shape, patterns.len() as u32, &patterns).unwrap()
     };
     table[4..8].copy_from_slice(&film.kind);

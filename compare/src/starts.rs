@@ -57,7 +57,7 @@ struct Read {
 
 fn read(s: &[u8], kind: &[u8; 4]) -> Result<Read, u32> {
     let sources = listing::sources(s, kind)?;
-    let whole = !sources.csgp || csgp::in_domain(&sources.table);
+    let whole = !sources.csgp || csgp::expands(&sources.table);
     let (patterns, table): (Patterns, _) = if whole {
         let table = listing::read_table(&sources)?.table;
         (table.entries.iter().map(|row| (row.sample_count, vec![row.group_description_index])).collect(), Some(table))
@@ -242,7 +242,7 @@ fn large(random: &mut Random) -> (Film, Vec<u8>) {
             (length, n, (0..length).map(|k| if k == 0 { index } else { random.below(4) as u32 }).collect())
         };
         let patterns: Vec<csgp::Pattern> = rows.iter().map(&mut pattern).collect();
-        let shape = csgp::Shape { index: 0, count: 3, length: 0, parameter: false };
+        let shape = csgp::Shape { index: 0, count: 3, length: 0, parameter: false, marks: false };
         csgp::payload(random, shape, patterns.len() as u32, &patterns).unwrap()
     };
     table[4..8].copy_from_slice(&film.kind);
@@ -325,7 +325,7 @@ fn around(kind: &[u8; 4], table: &Table, sgpd: &[u8]) -> Vec<u8> {
     let table = match table {
         Table::Rows(rows) => film::wrapped_plain(b"sbgp", &writing::sbgp_body(*kind, rows)),
         Table::Patterns(patterns) => {
-            let shape = csgp::Shape { index: 0, count: 3, length: 0, parameter: false };
+            let shape = csgp::Shape { index: 0, count: 3, length: 0, parameter: false, marks: false };
             let mut s = csgp::payload(&mut Random::new(32), shape, patterns.len() as u32, patterns).unwrap();
             s[4..8].copy_from_slice(kind);
             film::wrapped_plain(b"csgp", &s)

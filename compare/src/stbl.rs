@@ -165,14 +165,18 @@ fn period(indices: &[u32]) -> usize {
     (1..indices.len()).find(|&q| (q..indices.len()).all(|k| indices[k] == indices[k - q])).unwrap_or(indices.len())
 }
 
-/// A csgp payload that gives the samples these indices: patterns that wrap, are longer than their samples, or have none.
+/// Bit 31 of an index: its description is a fragment's own.
+pub const MARK: u32 = 1 << 31;
+
+/// A csgp payload that gives the samples these indices: patterns that wrap, are longer than their samples, or have none. Marked indices, and some others, go with flag bit 7.
 fn csgp_of(random: &mut Random, kind: &[u8; 4], indices: &[u32]) -> Vec<u8> {
-    let fits = |code: usize, n: u32| WIDTHS[code] == 32 || n < 1 << WIDTHS[code];
-    let highest = indices.iter().copied().max().unwrap_or(0);
+    let marks = indices.iter().any(|&index| index >= MARK) || random.one_in(8);
+    let fits = |code: usize, n: u32| (n as u64) < 1 << (WIDTHS[code] - marks as u32);
+    let highest = indices.iter().map(|index| index % MARK).max().unwrap_or(0);
     let widths: Vec<usize> = (0..4).filter(|&code| fits(code, highest)).collect();
     let (index, count, length) = (random.pick(&widths), random.below(4) as usize, random.below(4) as usize);
     let parameter = random.one_in(3);
-    let shape = Shape { index, count, length, parameter };
+    let shape = Shape { index, count, length, parameter, marks };
     let most = |code: usize| (1usize << WIDTHS[code].min(12)) - 1;
     let (most_samples, most_length) = (most(count), most(length));
     let longest = random.pick(&[3, 20, 5000]);
@@ -203,6 +207,10 @@ fn csgp_of(random: &mut Random, kind: &[u8; 4], indices: &[u32]) -> Vec<u8> {
         }
         patterns.push((pattern.len() as u32, n as u32, pattern));
         at += n;
+    }
+    if marks {
+        let field = |index: u32| index % MARK | index / MARK << (WIDTHS[shape.index] - 1);
+        patterns.iter_mut().flat_map(|(_, _, indices)| indices).for_each(|index| *index = field(*index));
     }
     let mut s = csgp::payload(random, shape, patterns.len() as u32, &patterns).expect("numbers that fit");
     s[4..8].copy_from_slice(kind);
@@ -247,7 +255,10 @@ pub struct Parts {
 pub fn parts(random: &mut Random, film: &Film) -> Parts {
     let numbered = numbering(random, film);
     let entries: Vec<Vec<u8>> = numbered.iter().map(|(_, e)| e.clone()).collect();
-    let past = entries.len() as u32 + random.pick(&[1, 2, 100, 40_000, 0x7fff_0000]);
+    let past = match random.pick(&[1, 2, 100, 40_000, 0x7fff_0000, MARK]) {
+        MARK => MARK + random.below(3) as u32,
+        far => entries.len() as u32 + far,
+    };
     let of_value: Vec<Vec<u32>> =
         (0..film.values.len()).map(|v| (1..=numbered.len()).filter(|&k| numbered[k - 1].0 == v).map(|k| k as u32).collect()).collect();
     // a value's index stays for a while, so that rows and patterns are of more than one sample

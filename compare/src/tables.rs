@@ -12,6 +12,10 @@ use crate::standalone::{Error, Result};
 /// The number of an error: document 01's, by the Rust's message.
 pub fn number(error: &Error) -> u32 {
     let Error::InvalidData(text) = error else { panic!("an error of another kind: {error}") };
+    // a refusal by a calculation of our own, where the Rust has another meaning
+    if let Some(number) = text.strip_prefix("document ") {
+        return number.parse().unwrap();
+    }
     messages::number(
         text,
         &[

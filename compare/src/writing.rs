@@ -4,8 +4,9 @@ use super::ffi::{self, Answer};
 use super::random::Random;
 use super::tally::Tally;
 use super::vectors::{Vectors, eights};
-use crate::sample_groups::{self, SampleToGroup};
-use crate::standalone::Result;
+use super::listing;
+use crate::sample_groups::{self, SampleToGroup, SampleToGroupEntry};
+use crate::standalone::{Error, Result};
 
 type Row = (u32, u32);
 
@@ -48,21 +49,40 @@ impl Bits {
     }
 }
 
+/// Bit 31 of an index, and the others.
+const MARK: u32 = 1 << 31;
+
+/// Where a row has a mark, flag bit 7 is set, and the highest bit of each index field is its mark.
 fn csgp_body(kind: [u8; 4], rows: &[Row]) -> Vec<u8> {
-    let code = |largest: u32| [4u32, 8, 16].iter().position(|&width| largest >> width == 0).unwrap_or(3) as u8;
-    let count_code = code(rows.iter().map(|row| row.0).max().unwrap_or(0));
-    let index_code = code(rows.iter().map(|row| row.1).max().unwrap_or(0));
-    let mut s = head(count_code << 2 | index_code, kind, rows.len());
+    let narrowest = |largest: u32, bits: u32| [4u32, 8, 16].iter().position(|&width| largest >> (width - bits) == 0).unwrap_or(3) as u8;
+    let marks = rows.iter().any(|row| row.1 >= MARK);
+    let count_code = narrowest(rows.iter().map(|row| row.0).max().unwrap_or(0), 0);
+    let index_code = narrowest(rows.iter().map(|row| row.1 % MARK).max().unwrap_or(0), marks as u32);
+    let mut s = head((marks as u8) << 7 | count_code << 2 | index_code, kind, rows.len());
     let mut bits = Bits::default();
     for &(count, _) in rows {
         bits.push(4, 1);
         bits.push(4 << count_code, count);
     }
     for &(_, index) in rows {
-        bits.push(4 << index_code, index);
+        let width = 4 << index_code;
+        bits.push(width, index % MARK | index / MARK << (width - 1));
     }
     s.extend(bits.bytes());
     s
+}
+
+/// A written csgp by the Rust, or, where it has marks, by a calculation of our own; each pattern has one index.
+fn read_csgp(s: &[u8]) -> Result<SampleToGroup> {
+    if s[3] < 128 {
+        return sample_groups::parse_csgp(s);
+    }
+    let patterns = listing::patterns(s).map_err(|n| Error::invalid(format!("document {n}")))?;
+    let entries = patterns.into_iter().map(|(sample_count, indices)| {
+        assert!(indices.len() == 1 && sample_count > 0);
+        SampleToGroupEntry { sample_count, group_description_index: indices[0] }
+    });
+    Ok(SampleToGroup { grouping_type: s[4..8].try_into().unwrap(), grouping_type_parameter: 0, entries: entries.collect() })
 }
 
 struct Writers {
@@ -89,7 +109,7 @@ const CSGP: Writers = Writers {
     write: "write_csgp",
     ours_quote: ffi::quote_csgp,
     ours_write: ffi::write_csgp,
-    reference: sample_groups::parse_csgp,
+    reference: read_csgp,
 };
 
 /// One list of rows: the quote, writes with other lengths and outputs, the written body, and what the Rust reads in it.
@@ -160,9 +180,12 @@ pub fn run(tally: &mut Tally) {
     }
     // One to three rows at the seams of the codes: every pair of widths, bit lengths that fill the last byte and that do not.
     const COUNTS: [u32; 9] = [0, 1, 15, 16, 255, 256, 65_535, 65_536, 70_000];
-    const INDICES: [u32; 10] = [0, 1, 15, 16, 255, 256, 65_535, 65_536, 0x8000_0001, u32::MAX];
+    // and low bits of a marked index at the seams of its widths
+    const LOW: [u32; 8] = [0, 1, 7, 8, 127, 128, 32_767, 32_768];
+    const PLAIN: [u32; 9] = [0, 1, 15, 16, 255, 256, 65_535, 65_536, MARK - 1];
+    let indices: Vec<u32> = PLAIN.into_iter().chain(LOW).chain(LOW.map(|low| MARK | low)).chain([u32::MAX]).collect();
     for count in COUNTS {
-        for index in INDICES {
+        for &index in &indices {
             both(tally, &mut random, kind, &[(count, index)]);
             both(tally, &mut random, kind, &[(1, 1), (count, index)]);
             both(tally, &mut random, kind, &[(count, index), (0, 3), (2, index)]);
@@ -175,7 +198,7 @@ pub fn run(tally: &mut Tally) {
         let many = if k % 100 == 0 { 60 } else { 8 };
         let wide = random.one_in(2);
         let mut rows: Vec<Row> = (0..random.below(many)).map(|_| (random.pick(&SMALL), random.below(4) as u32)).collect();
-        rows.iter_mut().for_each(|row| if wide && random.one_in(3) { row.1 = random.pick(&INDICES) });
+        rows.iter_mut().for_each(|row| if wide && random.one_in(3) { row.1 = random.pick(&indices) });
         if random.one_in(200) && !rows.is_empty() {
             let at = random.below(rows.len() as u64) as usize;
             rows[at].0 = random.pick(&COUNTS);
@@ -250,6 +273,13 @@ pub fn vectors(out: &mut Vectors) {
         sample(out, kind, &[(n, n), (1, 0)], &[], false);
     }
     sample(out, kind, &[(most, most)], &[], false);
+    // Marked rows: low bits at the seams of the widths, beside unmarked ones; a mark on a row that is dropped, and marks that keep neighbours apart.
+    for low in [0, 7, 8, 127, 128, 32_767, 32_768, MARK - 1] {
+        sample(out, kind, &[(1, MARK | low)], &[], false);
+        sample(out, kind, &[(2, low), (1, MARK)], &[], false);
+    }
+    sample(out, kind, &[(0, MARK | 3), (2, 3)], &[], true);
+    sample(out, kind, &[(1, 3), (2, MARK | 3), (0, 9), (3, MARK | 3)], &[], true);
     // Bodies with a half byte at the end and without, like neighbours at either end, and a type of any bytes.
     for n in 1..9 {
         let rows: Vec<Row> = (0..n).map(|k| (1 + k, k % 3)).collect();
