@@ -194,7 +194,7 @@ fn marked(tally: &mut Tally, random: &mut Random) {
         let some = [0, 1, 2, top - 1, top, top | 1, top | 2, top | (top - 1)];
         for length in 1..=5u32 {
             for count in (0..=2 * length + 2).chain([15]) {
-                for _ in 0..60 {
+                for _ in 0..280 {
                     let marks = index < 3 || random.one_in(2);
                     let shape = Shape { index, count: random.below(4) as usize, length: random.below(4) as usize, parameter: random.one_in(3), marks };
                     let mut pick = |n: u32| -> Vec<u32> { (0..n).map(|_| random.pick(&some)).collect() };

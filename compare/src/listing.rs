@@ -304,7 +304,7 @@ impl Told {
 }
 
 /// The refusals that a body of a stbl can meet, 55 aside.
-const REFUSALS: [u32; 34] = [1, 2, 3, 4, 5, 6, 8, 20, 21, 22, 23, 24, 25, 26, 27, 28, 29, 30, 31, 32, 33, 34, 35, 40, 41, 42, 43, 44, 45, 50, 51, 52, 53, 54];
+const REFUSALS: [u32; 35] = [1, 2, 3, 4, 5, 6, 8, 20, 21, 22, 23, 24, 25, 26, 27, 28, 29, 30, 31, 32, 33, 34, 35, 40, 41, 42, 43, 44, 45, 50, 51, 52, 53, 54, 67];
 
 /// How often each refusal was given.
 type Seen = BTreeMap<u32, u64>;

@@ -160,7 +160,7 @@ impl Read {
 
 /// The refusals that a body can meet here, 55 aside: no records are lent (29), both types have a byte count of their own in version 0 (34), and one refusal of their
 /// decoders.
-const REFUSALS: [u32; 28] = [1, 2, 3, 4, 5, 6, 8, 20, 21, 22, 23, 24, 25, 26, 27, 28, 30, 31, 32, 33, 35, 40, 50, 51, 52, 53, 62, 255];
+const REFUSALS: [u32; 29] = [1, 2, 3, 4, 5, 6, 8, 20, 21, 22, 23, 24, 25, 26, 27, 28, 30, 31, 32, 33, 35, 40, 50, 51, 52, 53, 62, 67, 255];
 
 /// How often each refusal was given; 255 is none.
 type Seen = BTreeMap<u32, u64>;

@@ -19,7 +19,7 @@ use Rattle.listing_spec.proofs.FirmWalk.{WalkNumbers, sources-by}
 use Rattle.listing_spec.proofs.FirmParts.{EntryNumbers, entries-by}
 
 abbrev StructureNumbers : (ℕ → Type 0) → Type 0
-StructureNumbers R = R 55 × R 20 × R 21 × R 22 × R 23 × R 24 × R 25 × R 26 × R 27
+StructureNumbers R = R 55 × R 20 × R 21 × R 22 × R 23 × R 24 × R 25 × R 26 × R 27 × R 67
 
 abbrev GroupNumbers : (ℕ → Type 0) → Type 0
 GroupNumbers R = WalkerNumbers R × WalkNumbers R × StructureNumbers R × EntryNumbers R
@@ -28,7 +28,7 @@ module _ (R : ℕ → Type 0) (N : Type 0) (s : List ℕ) where
   patterns-by : StructureNumbers R → (k : TakenTable) → RefusesBy R N (patternsTaken s k)
   unfolding patternsTaken
   patterns-by r (sbgpAt b) = let p = bytesAt s b in by-andThen R N (sbgp p) _ (sbgp-by R N p (r .0, r .1, r .2, r .3, r .4)) (λ x e. tt)
-  patterns-by r (csgpAt b) = csgp-by R N (bytesAt s b) (r .0, r .1, r .2, r .3, r .5, r .6, r .7, r .8)
+  patterns-by r (csgpAt b) = csgp-by R N (bytesAt s b) (r .0, r .1, r .2, r .3, r .5, r .6, r .7, r .8, r .9)
 
   -- where the rows are entered or refused so
   pub group-by : GroupNumbers R → (t room : ℕ) → ((taken : Sources) → sources s t ≡ given taken → RefusesBy R N (parsedTaken s room (taken .table)))
