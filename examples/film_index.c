@@ -94,6 +94,24 @@ static void tables(void) {
     expect("film_covered_samples", one[0], 3);
 }
 
+static void playing(void) {
+    /* the rows (2,1), (0,9), (1,3): samples 0 to 2, the end at 3 */
+    const film_row_number rows[3 * FILM_ROW_NUMBERS] = {2, 1, 0, 9, 1, 3};
+    const uint64_t indices[6] = {1, 1, 3, 0, 0, 0}, places[6] = {0, 1, 2, 3, 3, 3}, covering[6] = {0, 0, 2, 3, 3, 3};
+    film_play_head head = FILM_PLAY_HEAD_FRESH;
+    uint64_t one[1];
+    for (unsigned k = 0; k < 6; k++) {
+        expect("film_play_move", film_play_move(&head, rows, sizeof rows / sizeof *rows, one), FILM_OK);
+        expect("film_play_move", one[0], indices[k]);
+        expect("film_play_move", head.sample, places[k]);
+        expect("film_play_move", head.row, covering[k]);
+    }
+    expect("film_play_set", film_play_set(&head, rows, sizeof rows / sizeof *rows, 1, one), FILM_OK);
+    expect("film_play_set", one[0] == 1 && head.placed == 1 && head.sample == 1 && head.row == 0 && head.within == 1, 1);
+    expect("film_play_set", film_play_set(&head, rows, sizeof rows / sizeof *rows, UINT32_MAX, one), FILM_OK);
+    expect("film_play_set", one[0] == 0 && head.sample == 3 && head.row == 3, 1);
+}
+
 static void writing(void) {
     /* the rows (2,1), (0,9), (1,1), (20,2): the csgp has (3,1), (20,2), counts of 8 bits and indices of 4 */
     const film_row_number rows[8] = {2, 1, 0, 9, 1, 1, 20, 2};
@@ -303,6 +321,7 @@ int main(void) {
     atoms();
     sync();
     tables();
+    playing();
     writing();
     descriptions();
     entries();

@@ -33,6 +33,9 @@ static void null_tables(uint64_t *out) {
     NULL_CASE(film_csgp_rows_needed(0, 0, out), FILM_SHORT_TABLE);
     NULL_CASE(film_group_index_for_sample(0, 0, 0, out), FILM_OK);
     NULL_CASE(film_covered_samples(0, 0, out), FILM_OK);
+    film_play_head head = FILM_PLAY_HEAD_FRESH;
+    NULL_CASE(film_play_move(&head, 0, 0, out), FILM_OK);
+    NULL_CASE(film_play_set(&head, 0, 0, 7, out), FILM_OK);
     NULL_CASE(film_quote_sbgp(0, 0, out), FILM_OK);
     NULL_CASE(film_quote_csgp(0, 0, out), FILM_OK);
     NULL_CASE(film_write_sbgp(FILM_TYPE_ROLL, 0, 0, 12, body, 12, out), FILM_OK);

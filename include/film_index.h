@@ -193,6 +193,24 @@ uint32_t film_group_index_for_sample(const film_row_number *rows, film_size rows
 /* The number of samples that the rows cover. out: the sum. */
 uint32_t film_covered_samples(const film_row_number *rows, film_size rows_len, uint64_t out[1]);
 
+/* A play head over rows: in play the next frame's index costs a few instructions, whatever lies before it. The caller keeps the head and lends it; four zeros are a fresh head,
+ * which stands before sample 0. Its numbers are those that the calls leave; other ones are taken too, but the index and the head are then of no use. */
+typedef struct film_play_head {
+    uint64_t placed; /* 0: fresh; 1: at a sample */
+    uint64_t sample; /* counted from 0 */
+    uint64_t row;    /* the row that covers the sample, counted from 0; the row count where none does */
+    uint64_t within; /* the samples of that row before it */
+} film_play_head;
+#define FILM_PLAY_HEAD_FRESH {0, 0, 0, 0}
+
+/* Sets the head to a sample. It does not go beyond the smaller of the covered samples and 4,294,967,295. out: the index of the sample reached, as film_group_index_for_sample
+ * gives it. The rows are walked from the first. */
+uint32_t film_play_set(film_play_head *head, const film_row_number *rows, film_size rows_len, film_sample sample, uint64_t out[1]);
+
+/* Moves the head on by one sample; a fresh one to sample 0; at the end it stays. out: the index of the sample reached. The rows are those that the head was set and moved over so
+ * far; rows before the head's are not read. Over more than FILM_RECORD_LIMIT records both calls are FILM_INPUT_TOO_LONG and leave the head as it was. */
+uint32_t film_play_move(film_play_head *head, const film_row_number *rows, film_size rows_len, uint64_t out[1]);
+
 /* Tables written. `rows` is a run of numbers as above, which is only read. A body is written in two calls: a quote of its exact length, and a write that takes that length. Version
  * and flags but the codes of a csgp are 0, and there is no parameter. Up to FILM_INPUT_LIMIT bytes a written sbgp reads back to the same rows, and a written csgp to the same
  * index at every sample and the same total, with records enough. */

@@ -130,6 +130,8 @@ pub mod raw {
         pub fn film_csgp_rows_needed(s: *const u8, len: u64, out: *mut [u64; 1]) -> u32;
         pub fn film_group_index_for_sample(rows: *const RowNumber, rows_len: u64, sample: Sample, out: *mut [u64; 1]) -> u32;
         pub fn film_covered_samples(rows: *const RowNumber, rows_len: u64, out: *mut [u64; 1]) -> u32;
+        pub fn film_play_set(head: *mut [u64; 4], rows: *const RowNumber, rows_len: u64, sample: Sample, out: *mut [u64; 1]) -> u32;
+        pub fn film_play_move(head: *mut [u64; 4], rows: *const RowNumber, rows_len: u64, out: *mut [u64; 1]) -> u32;
         pub fn film_quote_sbgp(rows: *const RowNumber, rows_len: u64, out: *mut [u64; 1]) -> u32;
         pub fn film_quote_csgp(rows: *const RowNumber, rows_len: u64, out: *mut [u64; 1]) -> u32;
         pub fn film_write_sbgp(kind: u32, rows: *const RowNumber, rows_len: u64, quoted: u64, body: *mut u8, body_len: u64, out: *mut [u64; 1]) -> u32;
@@ -338,6 +340,35 @@ pub fn group_index_for_sample(rows: &[SampleToGroupEntry], sample: Sample) -> Re
 pub fn covered_samples(rows: &[SampleToGroupEntry]) -> Result<u64> {
     let [sum] = value(|out| unsafe { raw::film_covered_samples(rows.as_ptr().cast(), numbers(rows), out) })?;
     Ok(sum)
+}
+
+/// A play head over rows: the default one is fresh and stands before sample 0. Its fields are what the calls leave.
+#[derive(Clone, Copy, Debug, Default, PartialEq, Eq)]
+#[repr(C)]
+pub struct PlayHead {
+    /// 0: fresh; 1: at a sample.
+    pub placed: u64,
+    pub sample: u64,
+    /// The row that covers the sample; the row count where none does.
+    pub row: u64,
+    /// The samples of that row before it.
+    pub within: u64,
+}
+
+impl PlayHead {
+    /// Sets the head to a sample, or to the end where that comes before; gives the index there.
+    pub fn set(&mut self, rows: &[SampleToGroupEntry], sample: Sample) -> Result<u32> {
+        let head: *mut PlayHead = self;
+        let [index] = value(|out| unsafe { raw::film_play_set(head.cast(), rows.as_ptr().cast(), numbers(rows), sample, out) })?;
+        Ok(index as u32)
+    }
+
+    /// Moves the head on by one sample, a fresh one to sample 0; at the end it stays. Gives the index there. The rows are those of the calls before.
+    pub fn move_on(&mut self, rows: &[SampleToGroupEntry]) -> Result<u32> {
+        let head: *mut PlayHead = self;
+        let [index] = value(|out| unsafe { raw::film_play_move(head.cast(), rows.as_ptr().cast(), numbers(rows), out) })?;
+        Ok(index as u32)
+    }
 }
 
 #[derive(Clone, Copy, Debug, PartialEq, Eq)]

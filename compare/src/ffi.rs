@@ -288,6 +288,34 @@ pub fn group_index_for_sample(rows: &[RowNumber], sample: Sample) -> Answer<u32>
     held(told, rows.len(), || module::group_index_for_sample(as_rows(rows), sample).into())
 }
 
+/// A head's four numbers after a call, and its answer. Without a value the head stays.
+pub fn play(head: [u64; 4], rows: &[RowNumber], call: Option<Sample>) -> (Answer<u32>, [u64; 4]) {
+    let mut framed = [GUARD; 4 + 2 * GUARDS];
+    framed[GUARDS..GUARDS + 4].copy_from_slice(&head);
+    let lent_head = framed[GUARDS..].as_mut_ptr().cast();
+    let (run, numbers) = (lent(rows.as_ptr(), rows.len()), rows.len() as u64);
+    let told = with_out::<1>(|out| unsafe {
+        match call {
+            Some(sample) => raw::film_play_set(lent_head, run, numbers, sample, out),
+            None => raw::film_play_move(lent_head, run, numbers, out),
+        }
+    });
+    assert!(framed[..GUARDS].iter().chain(&framed[GUARDS + 4..]).all(|&g| g == GUARD), "memory beside the head was written");
+    let after: [u64; 4] = framed[GUARDS..GUARDS + 4].try_into().unwrap();
+    let told = told.map(|[index]| index as u32);
+    let told = held(told, rows.len(), || {
+        let [placed, sample, row, within] = head;
+        let mut head = module::PlayHead { placed, sample, row, within };
+        let told = match call {
+            Some(sample) => head.set(as_rows(rows), sample),
+            None => head.move_on(as_rows(rows)),
+        };
+        assert!([head.placed, head.sample, head.row, head.within] == after, "the module for Rust leaves another head");
+        told.into()
+    });
+    (told, after)
+}
+
 pub fn covered_samples(rows: &[RowNumber]) -> Answer<u64> {
     let told = with_out::<1>(|out| unsafe { raw::film_covered_samples(lent(rows.as_ptr(), rows.len()), rows.len() as u64, out) }).map(|[sum]| sum);
     held(told, rows.len(), || module::covered_samples(as_rows(rows)).into())

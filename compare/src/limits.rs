@@ -68,6 +68,8 @@ pub fn run(tally: &mut Tally) {
     for numbers in [ROW_NUMBERS * RECORDS, ROW_NUMBERS * (RECORDS + 1) - 1, ROW_NUMBERS * (RECORDS + 1)] {
         let mut check = |entry, refused| tally.same(entry, refused, numbers / ROW_NUMBERS > RECORDS, &|| format!("55 for {numbers} numbers"));
         check("group_index_for_sample", too_long(ffi::group_index_for_sample(&rows[..numbers], 0)));
+        check("play_set", too_long(ffi::play([1, 2, 3, 4], &rows[..numbers], Some(0)).0));
+        check("play_move", too_long(ffi::play([0; 4], &rows[..numbers], None).0));
         check("covered_samples", too_long(ffi::covered_samples(&rows[..numbers])));
         check("quote_sbgp", too_long(ffi::quote_sbgp(&rows[..numbers])));
         check("quote_csgp", too_long(ffi::quote_csgp(&rows[..numbers])));

@@ -9,6 +9,7 @@ mod film;
 mod limits;
 mod listing;
 mod messages;
+mod play;
 mod random;
 mod sbgp;
 mod sgpd;
@@ -60,7 +61,7 @@ pub fn main() {
         }
         return;
     }
-    let parts: [fn(&mut tally::Tally); 15] = [
+    let parts: [fn(&mut tally::Tally); 16] = [
         csgp::run,
         csgp::run_long,
         atoms::run,
@@ -76,6 +77,7 @@ pub fn main() {
         starts::run,
         writing::run,
         sync::run,
+        play::run,
     ];
     let tallies = std::thread::scope(|threads| {
         let running = parts.map(|part| {
