@@ -45,12 +45,39 @@ pub fn run(bench: &mut Bench) {
     });
     written(bench, "sbgp", film_quote_sbgp, film_write_sbgp, sample_groups::parse_sbgp);
     written(bench, "csgp", film_quote_csgp, film_write_csgp, sample_groups::parse_csgp);
+    playing(bench);
     let mut stss = [[0; 4], 1000u32.to_be_bytes()].concat();
     stss.extend((1..=1000u32).flat_map(|k| (10 * k).to_be_bytes()));
     let stss = black_box(stss);
     bench.measure("entry\tlast_sync_sample, 1,000 numbers\tours".into(), || {
         assert_eq!(unsafe { film_last_sync_sample(stss.as_ptr(), stss.len() as u64, 5000, front(&mut out)) }, 0)
     });
+}
+
+/// A move of a play head near the front of many rows and far behind it, beside a lookup of the same sample by both sides; a set walks the rows as a lookup does.
+fn playing(bench: &mut Bench) {
+    let rows: Vec<RowNumber> = black_box((0..200_000u32).flat_map(|k| [2, k % 5]).collect());
+    let entries = (0..200_000u32).map(|k| sample_groups::SampleToGroupEntry { sample_count: 2, group_description_index: k % 5 }).collect();
+    let table = black_box(sample_groups::SampleToGroup { grouping_type: *b"roll", grouping_type_parameter: 0, entries });
+    let index = black_box(sample_groups::SampleToGroup::group_index_for_sample as fn(&sample_groups::SampleToGroup, u32) -> u32);
+    let numbers = rows.len() as u64;
+    for row in [1, 100_000u32] {
+        let (mut out, mut begun) = ([0u64; 1], [0u64; 4]);
+        let sample = 2 * row;
+        assert_eq!(unsafe { film_play_set(&mut begun, rows.as_ptr(), numbers, sample, &mut out) }, 0);
+        bench.measure(format!("entry\tplay_set to row {row}\tours"), || {
+            let mut head = begun;
+            assert_eq!(unsafe { film_play_set(&mut head, rows.as_ptr(), numbers, sample, &mut out) }, 0)
+        });
+        bench.measure(format!("entry\tplay_move in row {row}\tours"), || {
+            let mut head = begun;
+            assert_eq!(unsafe { film_play_move(&mut head, rows.as_ptr(), numbers, &mut out) }, 0)
+        });
+        assert_eq!(out[0], (row % 5) as u64);
+        let name = format!("group_index_for_sample, the sample of that move in row {row}");
+        bench.measure(format!("entry\t{name}\tours"), || drop(look_up(&rows, sample + 1)));
+        bench.measure(format!("entry\t{name}\trust"), || drop(black_box(index(&table, black_box(sample + 1)))));
+    }
 }
 
 /// Where decoding begins in a roll group, for its first and for its last frame, as its sample counts grow. A table that is longer than its count has indices that no
