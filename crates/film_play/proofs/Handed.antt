@@ -20,7 +20,7 @@ use Rattle.film_play.specs.Play.{headIn, headNumbers, toldPlayed, GivesP
 pub head-in : (h : PlayHead) → headIn (headNumbers h) ≡ h
 head-in h = by (h .fresh)
   where
-    by : (f : Bool) → headIn (headNumbers (record { fresh = f; sample = h .sample; row = h .row; within = h .within })) ≡ record { fresh = f; sample = h .sample; row = h .row; within = h .within }
+    by : (f : Bool) → let g : PlayHead = record { fresh = f; sample = h .sample; row = h .row; within = h .within } in headIn (headNumbers g) ≡ g
     by true = refl
     by false = refl
 

@@ -42,14 +42,17 @@ setTold l k = let rows = rowsOf l in withinRecords (recordsIn l) (given (playedA
 pub record GivesMove (l : List ℕ) (h : PlayHead) (r : Turn) : Type 0 where
   pub tooMany : recordLimit < recordsIn l → GivesTurn (refused 55) h r
   pub answered : recordsIn l ≤ recordLimit → (i : ℕ) × (toldIndex (r .found) ≡ given i)
-  pub due : recordsIn l ≤ recordLimit → (own : List Row) (at : Option ℕ) → HeadMade lastSample own at h → drop (h .row) own ≡ drop (h .row) (rowsOf l)
+  pub due : recordsIn l ≤ recordLimit → (own : List Row) (at : Option ℕ) → HeadMade lastSample own at h
+      → drop (h .row) own ≡ drop (h .row) (rowsOf l)
       → GivesTurn (given (playedAt own (reach (playEnd lastSample own) at move))) h r
 
 -- a list of calls over one run of numbers, each with a result that it promises
 pub data PlayRun (l : List ℕ) : PlayHead → List PlayCall → List Turn → Type 0 where
   done : {h : PlayHead} → PlayRun l h [] []
-  sets : {h : PlayHead} {k : ℕ} {r : Turn} {cs : List PlayCall} {rs : List Turn} → GivesTurn (setTold l k) h r → PlayRun l (r .head) cs rs → PlayRun l h (set k ∷ cs) (r ∷ rs)
-  moves : {h : PlayHead} {r : Turn} {cs : List PlayCall} {rs : List Turn} → GivesMove l h r → PlayRun l (r .head) cs rs → PlayRun l h (move ∷ cs) (r ∷ rs)
+  sets : {h : PlayHead} {k : ℕ} {r : Turn} {cs : List PlayCall} {rs : List Turn}
+      → GivesTurn (setTold l k) h r → PlayRun l (r .head) cs rs → PlayRun l h (set k ∷ cs) (r ∷ rs)
+  moves : {h : PlayHead} {r : Turn} {cs : List PlayCall} {rs : List Turn}
+      → GivesMove l h r → PlayRun l (r .head) cs rs → PlayRun l h (move ∷ cs) (r ∷ rs)
 
 -- what each result tells: the answer, and the head
 pub record ToldTurn : Type 0 where
