@@ -14,15 +14,6 @@ use Rattle.group_sgpd.proofs.Entries.{after-inside, after-add, spans-af
 use Rattle.group_sgpd.proofs.ByNumber.{pick-unrefused}
 use Rattle.group_sgpd.proofs.Heads.{head-of, sgpd-head, first-is, sgpd-spans, sgpd-given}
 
--- a cursor at the first entry
-pub on-first : {s : List ℕ} {h : SgpdHead} → HeadOf s h → {c : EntryCursor} → c .index .0 ≡ 1 → c .place ≡ h .first → OnEntry s c
-unfolding after
-on-first o {c} e f =
-    record {
-      number = omega arith;
-      place = rw (e, f, first-is o) refl;
-    }
-
 -- the answer of read_sgpd, where it gives a head
 pub read-whole : (s : List ℕ) {h : SgpdHead} → andThen (sgpd s) (λ es. given (headOf s)) ≡ given h → ReadWhole s h
 read-whole s {h} e = of (sgpd s) refl e

@@ -98,10 +98,6 @@ pub record OnEntry (s : List ℕ) (c : EntryCursor) : Type 0 where
   pub number : 1 ≤ c .index .0
   pub place : after (c .index .0 - 1) s (entryCountPlace s + 4) ≡ given (c .place)
 
--- the number of the entry on which a cursor stands after entry i was asked for: i where there is one, else n as before
-abbrev pub movedTo : List ℕ → ℕ → ℕ → ℕ
-movedTo s n i = choose (eqb i 0) n (choose (ltb (entryCount s) i) n i)
-
 -- entry i, and a cursor that stands on entry n
 pub record GivesEntry (s : List ℕ) (i n : ℕ) (r : EntryStep) : Type 0 where
   pub found : toldEntry (r .found) ≡ entryAt s i

@@ -12,8 +12,6 @@ ghost use Rattle.group_sgpd.specs.Sgpd.{parseSgpd, sgpd};
 ghost use Rattle.group_sgpd.specs.Told.{toldSgpd};
 ghost use Rattle.group_sgpd.specs.Head.{headOf, toldHead};
 use base_ids::DescriptionIndex;
-pub use cursor::entry_from;
-pub use cursor::first_entry;
 use head::sgpd_head;
 pub use lookup::entry;
 pub use lookup::entry_place;

@@ -36,6 +36,7 @@ pub fn meaning_at(s: &[u8], head: SgpdHead, marks: &[u32; 16], index: Descriptio
     match marked_entry(s, head, marks, index) {
         FoundEntry::Entry(place, size) => MeaningAt::Entry(place, size),
         FoundEntry::Nothing => MeaningAt::Missing,
+        // does not come up: the payload was read whole
         FoundEntry::Refused(_) => MeaningAt::Missing,
     }
 }

@@ -30,6 +30,7 @@ fn entries_like(
     match decode_alike(grouping_type, entry, other) {
         Alike::Same => true,
         Alike::Different => false,
+        // does not come up: both entries decode
         Alike::Refused(_) => false,
     }
 }
