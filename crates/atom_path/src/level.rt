@@ -24,7 +24,7 @@ const MINF: u32 = 0x6d69_6e66;
 const STBL: u32 = 0x7374_626c;
 
 // What is looked for in a level: which atom of a type, from 0, and the refusal where it is missing.
-#[derive(Drop)]
+#[derive(Clone, Copy)]
 pub struct PathLevel {
     pub fourcc: u32,
     pub number: u32,
@@ -33,7 +33,7 @@ pub struct PathLevel {
 }
 
 // The search within a level.
-#[derive(Drop)]
+#[derive(Clone, Copy)]
 enum Sought {
     // So many atoms of the type are passed over before the one that is looked for.
     Ahead(u32),

@@ -1,4 +1,6 @@
 // From the bytes of a film to the sample table of one of its tracks (document 02, A1): a search through five levels of containers.
+#![tactic(auto)]
+
 mod level;
 
 ghost use Rattle.std.specs.Prelude.{◌≡◌, ◌+◌, ◌<◌, ◌≤◌, length};
@@ -13,13 +15,13 @@ use level::search_level;
 const LEVELS: u32 = 5;
 
 // The place and the length of a container's body.
-#[derive(Drop)]
+#[derive(Clone, Copy)]
 pub struct Container {
     pub place: u64,
     pub size: u64,
 }
 
-#[derive(Drop)]
+#[derive(Clone, Copy)]
 pub enum FoundBody {
     Body(Container),
     Refused(u32),

@@ -1,4 +1,6 @@
 // Atom headers, the children of a container, and the bodies of atoms (document 01, parts 1 and 2).
+#![tactic(auto)]
+
 mod body;
 mod children;
 mod header;
@@ -8,13 +10,13 @@ pub use children::next_child;
 pub use header::read_atom_header;
 
 // The total size of an atom, header included; Open: it runs to the end of its parent or of the file.
-#[derive(Drop)]
+#[derive(Clone, Copy)]
 pub enum TotalSize {
     Open,
     Bytes(u64),
 }
 
-#[derive(Drop)]
+#[derive(Clone, Copy)]
 pub struct AtomHeader {
     // The four type bytes as a big-endian number.
     pub fourcc: u32,
@@ -25,7 +27,7 @@ pub struct AtomHeader {
     pub payload_offset: u64,
 }
 
-#[derive(Drop)]
+#[derive(Clone, Copy)]
 pub enum ReadHeader {
     Header(AtomHeader),
     Nothing,
@@ -33,13 +35,13 @@ pub enum ReadHeader {
 }
 
 // Where a container's payload ends.
-#[derive(Drop)]
+#[derive(Clone, Copy)]
 pub enum ParentEnd {
     Unknown,
     At(u64),
 }
 
-#[derive(Drop)]
+#[derive(Clone, Copy)]
 pub enum NextChild {
     // The child's header and the place of the next child.
     Child(AtomHeader, u64),
@@ -47,7 +49,7 @@ pub enum NextChild {
     Refused(u32),
 }
 
-#[derive(Drop)]
+#[derive(Clone, Copy)]
 pub enum ReadPayload {
     // The place and the length of the body.
     Body(u64, u64),

@@ -1,4 +1,6 @@
 // Parts of a slice, and numbers at a place of it: big-endian at a byte place, and fields of a bit stream at a bit place.
+#![tactic(auto)]
+
 pub mod fourcc;
 
 ghost use Rattle.std.specs.Prelude.{◌≡◌, ◌+◌, ◌*◌, ◌≤◌, ◌<◌, ◌^◌, length};
@@ -10,7 +12,7 @@ ghost use Rattle.base_fields.specs.Span.{GivesPart};
 pub const INPUT_LIMIT: usize = 67108864;
 
 // How many records of two numbers each were written in front of a lent run.
-#[derive(Drop)]
+#[derive(Clone, Copy)]
 pub enum FilledRun {
     Records(u32),
     Refused(u32),

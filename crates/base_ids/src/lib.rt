@@ -1,4 +1,5 @@
 // What samples and descriptions are counted in (document 01, part 5: neither number may stand in for the other).
+#![tactic(auto)]
 
 // How many samples a row covers. The width of every such count and of every sample number is this one.
 pub type SampleCount = u32;
@@ -19,11 +20,11 @@ pub const COUNT_LIMIT: SampleCount = 4294967295;
 pub const RECORD_LIMIT: usize = 8388608;
 
 // A sample's number, counted from 0.
-#[derive(Drop)]
+#[derive(Clone, Copy)]
 pub struct SampleNumber(pub SampleCount);
 
 // The number of a group description, counted from 1; 0 is none.
-#[derive(Drop)]
+#[derive(Clone, Copy)]
 pub struct DescriptionIndex(pub u32);
 
 // Bit 31 of an index: it is local to a fragment.

@@ -1,5 +1,7 @@
 // Prints the cue listing of an stbl's body (document 01): four type bytes and the body on standard input, one line of lower-case hexadecimal on
 // standard output, or why there is none.
+#![tactic(auto)]
+
 use cue_print::{print_listing, print_refused};
 use libc::{STDIN_FILENO, STDOUT_FILENO};
 use listing_cue::CueListing;

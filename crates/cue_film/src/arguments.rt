@@ -1,5 +1,5 @@
 // What the program's arguments say.
-#[derive(Drop)]
+#[derive(Clone, Copy)]
 pub enum ReadTrack {
     Track(u32),
     Nothing,

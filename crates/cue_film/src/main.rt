@@ -1,5 +1,7 @@
 // Prints the cue listing of a track of a film (document 02, A1): the film's file name, the track from 0 and four type bytes as arguments, one line of
 // lower-case hexadecimal on standard output, or why there is none. With the further argument `words` the listing is told in words, a stretch a line.
+#![tactic(auto)]
+
 mod arguments;
 mod top;
 

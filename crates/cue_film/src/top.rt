@@ -15,7 +15,7 @@ const LARGEST: u64 = 18446744073709551615;
 const LAST_PLACE: u64 = 9223372036854775807;
 
 // The first moov at the top of a film.
-#[derive(Drop)]
+#[derive(Clone, Copy)]
 pub enum Moov {
     // Its place and its size.
     Sized(u64, u64),
@@ -29,7 +29,7 @@ pub enum Moov {
 }
 
 // What stands at a place of the top.
-#[derive(Drop)]
+#[derive(Clone, Copy)]
 enum TopAtom {
     // The type and the size of an atom; the next one follows it.
     Sized(u32, u64),

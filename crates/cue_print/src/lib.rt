@@ -1,4 +1,6 @@
 // Lines on standard output: bytes in hexadecimal, and refusals.
+#![tactic(auto)]
+
 use libc::STDOUT_FILENO;
 
 // Two lower-case digits for each byte.

@@ -1,3 +1,5 @@
 // A cue listing in words, for the programs.
+#![tactic(auto)]
+
 mod numbers;
 pub mod words;

@@ -1,5 +1,5 @@
 // Numbers of a cue listing: groups of seven bits, lowest first, the top bit set on all but the last.
-#[derive(Drop)]
+#[derive(Clone, Copy)]
 pub enum ReadNumber {
     // The number, and the place behind it.
     Number(u64, usize),

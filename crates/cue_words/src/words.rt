@@ -5,7 +5,7 @@ use group_entries::{EntryLayout, layout_of};
 use libc::STDOUT_FILENO;
 
 // What was told of a listing ends at a place, or the listing is cut.
-#[derive(Drop)]
+#[derive(Clone, Copy)]
 enum Told {
     To(usize),
     Cut,

@@ -1,4 +1,6 @@
 // The C interface: headers, children and bodies of atoms.
+#![tactic(auto)]
+
 ghost use Rattle.std.specs.Prelude.{◌≡◌};
 ghost use Rattle.std.proofs.Math.Option.{none, some};
 ghost use Rattle.atom_tree.specs.Atom.{header_at, child_at, body_at};

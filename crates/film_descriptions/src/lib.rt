@@ -1,4 +1,6 @@
 // The C interface: group descriptions, film-wide and of a fragment, and the rate of a point.
+#![tactic(auto)]
+
 ghost use Rattle.std.specs.Prelude.{◌≡◌};
 ghost use Rattle.base_fields.specs.Answer.{given};
 ghost use Rattle.group_fragments.specs.Fragments.{described_at, rate_of};

@@ -1,4 +1,6 @@
 // The C interface: typed entries, and whether two of them decode alike.
+#![tactic(auto)]
+
 mod decode;
 mod number;
 

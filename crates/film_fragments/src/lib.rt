@@ -1,4 +1,6 @@
 // The C interface: a queue of fragments, in 132 numbers that the caller lends.
+#![tactic(auto)]
+
 ghost use Rattle.base_fields.specs.Answer.{given};
 ghost use Rattle.table_rows.specs.Row.{rows_of};
 ghost use Rattle.use_fragment_queue.specs.Held.{arrive, depart};

@@ -1,4 +1,6 @@
 // The C interface: the group of a sample, and what a cue listing needs to be lent.
+#![tactic(auto)]
+
 ghost use Rattle.std.specs.Prelude.{◌≡◌, [], ◌∷◌};
 ghost use Rattle.std.proofs.lemmas.List.Edits.{sets};
 ghost use Rattle.listing_needs.specs.Needs.{needs_of_listing, file_listing_needs};

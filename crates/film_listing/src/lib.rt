@@ -1,4 +1,6 @@
 // The C interface: the stbl of a track of a film, the cue listing of an stbl's body, and that of a track.
+#![tactic(auto)]
+
 ghost use Rattle.atom_path.specs.Path.{stbl_at};
 ghost use Rattle.listing_spec.specs.Cue.{cue_call};
 ghost use Rattle.listing_cue.specs.Told.{told_cue};

@@ -1,5 +1,7 @@
 // The C interface: a play head over rows in a lent run. In C a head is four numbers: whether it stands at a sample (0: fresh, before
 // sample 0; any other: at a sample; written as 1), the sample, the row that covers it, and the samples of that row before it. Four zeros are a fresh head.
+#![tactic(auto)]
+
 ghost use Rattle.std.specs.Prelude.{◌≡◌};
 ghost use Rattle.std.proofs.lemmas.List.Edits.{sets};
 ghost use Rattle.base_fields.specs.Answer.{choose};

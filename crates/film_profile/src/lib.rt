@@ -1,4 +1,6 @@
 // The C interface: the dome profile.
+#![tactic(auto)]
+
 ghost use Rattle.use_profile.specs.Told.{told_verdict};
 ghost use Rattle.film_status.specs.Status.{Returns};
 ghost use Rattle.film_profile.specs.Profile.{verdict_numbers, ReturnsVerdict, ReturnsFileVerdict};

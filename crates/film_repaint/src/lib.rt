@@ -1,4 +1,6 @@
 // The C interface: a stretch of samples repainted in a lent run of rows, of which the first `stated` records are rows; and a preview of that.
+#![tactic(auto)]
+
 ghost use Rattle.table_repaint.specs.Repaint.{repainted, rows_counted};
 ghost use Rattle.table_repaint.specs.Repainted.{told_repainted};
 ghost use Rattle.film_status.specs.Status.{Returns, one_number};

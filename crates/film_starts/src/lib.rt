@@ -1,4 +1,6 @@
 // The C interface: where decoding begins for a frame.
+#![tactic(auto)]
+
 ghost use Rattle.base_fields.specs.Fourcc as fourcc_of;
 ghost use Rattle.use_decode_start.specs.Told.{told_start};
 ghost use Rattle.film_status.specs.Status.{Returns, one_number};

@@ -1,5 +1,7 @@
 // What the functions of the C interface share (the film_ crates): numbers and slices only. Each that can refuse returns a status: 0 and the values
 // in `out`, NONE, or the number of a refusal. include/film_index.h declares them for C.
+#![tactic(auto)]
+
 ghost use Rattle.std.specs.Prelude.{◌≡◌};
 ghost use Rattle.base_fields.specs.Records.{told_records};
 ghost use Rattle.film_status.specs.Status.{Returns, bit, one_number};

@@ -1,4 +1,6 @@
 // The C interface: sync samples and sample dependencies.
+#![tactic(auto)]
+
 ghost use Rattle.table_sync.specs.Sync.{is_sync, last_sync, dependency_at};
 ghost use Rattle.film_status.specs.Status.{Returns};
 ghost use Rattle.film_sync.specs.Sync.{sync_numbers, sample_numbers, dependency_numbers};

@@ -1,4 +1,6 @@
 // The C interface: tables written as atom bodies, from rows in a lent run of u32 (a count and an index each).
+#![tactic(auto)]
+
 ghost use Rattle.std.specs.Prelude.{length};
 ghost use Rattle.table_writing.specs.Write.{quote_sbgp, quote_csgp, write_sbgp, write_csgp};
 ghost use Rattle.table_writers.specs.Told.{told_length, told_written};

@@ -1,4 +1,6 @@
 // Whether two entries of one grouping type decode to the same value (document 01, part 8: like meanings).
+#![tactic(auto)]
+
 ghost use Rattle.std.specs.Prelude.{◌≡◌, ℕ, ◌+◌, ◌≤◌, eqb, length};
 ghost use Rattle.base_fields.specs.Answer.{given, and_then, input_limit};
 ghost use Rattle.group_alike.specs.Front.{AllBytes, low_first, significant_of, GivesSame, ZeroWhereSame, Short, LeftOf, FrontIs, front_size, told_front_size, told_likeness};
@@ -11,7 +13,7 @@ use group_entries::{
     DecodedAlst, DecodedRap, DecodedRash, DecodedRoll, DecodedSap, DecodedTele, EntryLayout,
 };
 
-#[derive(Drop)]
+#[derive(Clone, Copy)]
 pub enum Alike {
     Same,
     Different,
@@ -19,14 +21,14 @@ pub enum Alike {
 }
 
 // The same as a truth value.
-#[derive(Drop)]
+#[derive(Clone, Copy)]
 pub enum Likeness {
     Told(bool),
     Refused(u32),
 }
 
 // What two entries of a layout still have to be compared by: nothing, or so many bytes at the front of both.
-#[derive(Drop)]
+#[derive(Clone, Copy)]
 enum Left {
     Told(bool),
     Refused(u32),
@@ -34,7 +36,7 @@ enum Left {
 }
 
 // How many bytes at the front of an entry decide its value, or the decoder's refusal.
-#[derive(Drop)]
+#[derive(Clone, Copy)]
 pub enum Front {
     Bytes(usize),
     Refused(u32),

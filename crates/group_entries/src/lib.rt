@@ -1,4 +1,6 @@
 // The typed entries of a sample group description (document 01, part 7; ISO/IEC 14496-12, 10).
+#![tactic(auto)]
+
 mod alst;
 mod plain;
 mod rash;
@@ -13,7 +15,7 @@ pub use plain::{decode_prol, decode_rap, decode_roll, decode_sap, decode_tele, s
 pub use rash::{decode_rash, rash_operation_point, rash_operation_points, rash_points_end};
 
 // How an entry's bytes are laid out; Raw is any type that part 7 does not name.
-#[derive(Drop)]
+#[derive(Clone, Copy)]
 pub enum EntryLayout {
     Roll,
     Rap,
@@ -24,30 +26,30 @@ pub enum EntryLayout {
     Raw,
 }
 
-#[derive(Drop)]
+#[derive(Clone, Copy)]
 pub struct RollRecovery {
     pub roll_distance: i16,
 }
 
-#[derive(Drop)]
+#[derive(Clone, Copy)]
 pub struct VisualRandomAccess {
     pub num_leading_samples_known: bool,
     pub num_leading_samples: u8,
 }
 
-#[derive(Drop)]
+#[derive(Clone, Copy)]
 pub struct TemporalLevel {
     pub level_independently_decodable: bool,
 }
 
-#[derive(Drop)]
+#[derive(Clone, Copy)]
 pub struct StreamAccessPoint {
     pub dependent: bool,
     pub sap_type: u8,
 }
 
 // The plain fields of a rash; its operation points are read by number.
-#[derive(Drop)]
+#[derive(Clone, Copy)]
 pub struct RateShare {
     pub operation_point_count: u16,
     pub maximum_bitrate: u32,
@@ -55,77 +57,77 @@ pub struct RateShare {
     pub discard_priority: u8,
 }
 
-#[derive(Drop)]
+#[derive(Clone, Copy)]
 pub struct RateShareOperationPoint {
     pub available_bitrate: u32,
     pub target_rate_share: u16,
 }
 
 // The plain fields of an alst; its offsets and pieces are read by number.
-#[derive(Drop)]
+#[derive(Clone, Copy)]
 pub struct AlternativeStartup {
     pub roll_count: u16,
     pub first_output_sample: u16,
     pub piece_count: u32,
 }
 
-#[derive(Drop)]
+#[derive(Clone, Copy)]
 pub struct AlternativeStartupPiece {
     pub num_output_samples: u16,
     pub num_total_samples: u16,
 }
 
-#[derive(Drop)]
+#[derive(Clone, Copy)]
 pub enum DecodedRoll {
     Roll(RollRecovery),
     Refused(u32),
 }
 
-#[derive(Drop)]
+#[derive(Clone, Copy)]
 pub enum DecodedRap {
     Rap(VisualRandomAccess),
     Refused(u32),
 }
 
-#[derive(Drop)]
+#[derive(Clone, Copy)]
 pub enum DecodedTele {
     Tele(TemporalLevel),
     Refused(u32),
 }
 
-#[derive(Drop)]
+#[derive(Clone, Copy)]
 pub enum DecodedSap {
     Sap(StreamAccessPoint),
     Refused(u32),
 }
 
-#[derive(Drop)]
+#[derive(Clone, Copy)]
 pub enum DecodedRash {
     Rash(RateShare),
     Refused(u32),
 }
 
-#[derive(Drop)]
+#[derive(Clone, Copy)]
 pub enum DecodedAlst {
     Alst(AlternativeStartup),
     Refused(u32),
 }
 
-#[derive(Drop)]
+#[derive(Clone, Copy)]
 pub enum ReadPoint {
     Point(RateShareOperationPoint),
     Nothing,
     Refused(u32),
 }
 
-#[derive(Drop)]
+#[derive(Clone, Copy)]
 pub enum ReadOffset {
     Offset(u32),
     Nothing,
     Refused(u32),
 }
 
-#[derive(Drop)]
+#[derive(Clone, Copy)]
 pub enum ReadPiece {
     Piece(AlternativeStartupPiece),
     Nothing,
@@ -133,7 +135,7 @@ pub enum ReadPiece {
 }
 
 // Whether a payload is long enough to decode.
-#[derive(Drop)]
+#[derive(Clone, Copy)]
 enum LengthCheck {
     Enough,
     Refused(u32),

@@ -1,4 +1,6 @@
 // Film-wide and fragment descriptions, and the rate of a point (document 01, part 9).
+#![tactic(auto)]
+
 ghost use Rattle.std.specs.Prelude.{◌≡◌, true, false};
 ghost use Rattle.base_fields.specs.Answer.{and_then};
 ghost use Rattle.group_sgpd.specs.Sgpd.{sgpd};
@@ -10,14 +12,14 @@ use base_ids::DescriptionIndex;
 use group_sgpd::{FoundEntry, ParsedSgpd};
 
 // An index of a csgp in a fragment: the index alone, and whether its description is the fragment's own.
-#[derive(Drop)]
+#[derive(Clone, Copy)]
 pub struct CsgpIndex {
     pub index: DescriptionIndex,
     pub fragment_local: bool,
 }
 
 // Where the description of an index is: the place and the length of its bytes.
-#[derive(Drop)]
+#[derive(Clone, Copy)]
 pub enum FoundPart {
     Film(usize, usize),
     Fragment(usize, usize),

@@ -1,4 +1,6 @@
 // The sample group description atom sgpd (document 01, part 6).
+#![tactic(auto)]
+
 mod cursor;
 mod head;
 mod lookup;
@@ -19,7 +21,7 @@ pub use marks::{MARKS, entry_marks, marked_entry};
 pub use places::entry_places;
 use spans::skip_all;
 
-#[derive(Drop)]
+#[derive(Clone, Copy)]
 pub struct SampleGroupDescription {
     pub version: u8,
     pub grouping_type: u32,
@@ -29,13 +31,13 @@ pub struct SampleGroupDescription {
     pub entry_count: u32,
 }
 
-#[derive(Drop)]
+#[derive(Clone, Copy)]
 pub enum ParsedSgpd {
     Description(SampleGroupDescription),
     Refused(u32),
 }
 
-#[derive(Drop)]
+#[derive(Clone, Copy)]
 pub enum FoundEntry {
     // The place and the length of the entry's bytes.
     Entry(usize, usize),
@@ -44,21 +46,21 @@ pub enum FoundEntry {
 }
 
 // Where an entry starts: its number and its place.
-#[derive(Drop)]
+#[derive(Clone, Copy)]
 pub struct EntryCursor {
     pub index: DescriptionIndex,
     pub place: usize,
 }
 
 // An entry, and the cursor from which the next one is looked for.
-#[derive(Drop)]
+#[derive(Clone, Copy)]
 pub struct EntryStep {
     pub found: FoundEntry,
     pub cursor: EntryCursor,
 }
 
 // The fixed fields, and the place of the first entry.
-#[derive(Drop)]
+#[derive(Clone, Copy)]
 pub struct SgpdHead {
     pub version: u8,
     pub grouping_type: u32,
@@ -68,14 +70,14 @@ pub struct SgpdHead {
     pub first: usize,
 }
 
-#[derive(Drop)]
+#[derive(Clone, Copy)]
 pub enum ReadHead {
     Head(SgpdHead),
     Refused(u32),
 }
 
 // What tells an entry's length.
-#[derive(Drop)]
+#[derive(Clone, Copy)]
 enum Lengths {
     // All entries have this one.
     Fixed(u32),
@@ -86,14 +88,14 @@ enum Lengths {
 }
 
 // An entry's place and length, wherever it stands in the order.
-#[derive(Drop)]
+#[derive(Clone, Copy)]
 enum Spanned {
     Entry(usize, usize),
     Refused(u32),
 }
 
 // The place behind some entries.
-#[derive(Drop)]
+#[derive(Clone, Copy)]
 enum Moved {
     At(usize),
     Refused(u32),

@@ -1,4 +1,6 @@
 // The cue listing of an stbl's body (document 01, part 8).
+#![tactic(auto)]
+
 mod write;
 
 ghost use Rattle.std.specs.Prelude.{◌≡◌, length};
@@ -22,13 +24,13 @@ use table_runs::{SampleTable, count_samples};
 use write::write_listing;
 
 // What an accepted call gives: the listing's length and the row count.
-#[derive(Drop)]
+#[derive(Clone, Copy)]
 pub struct CueLengths {
     pub listing: usize,
     pub rows: usize,
 }
 
-#[derive(Drop)]
+#[derive(Clone, Copy)]
 pub enum CueListing {
     Listing(CueLengths),
     Refused(u32),

@@ -1,4 +1,6 @@
 // The cue listing of a track of a film (document 02, A1).
+#![tactic(auto)]
+
 ghost use Rattle.listing_cue.specs.Told.{GivesCue};
 ghost use Rattle.listing_file.specs.File.{file_call};
 

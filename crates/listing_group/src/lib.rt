@@ -1,5 +1,7 @@
 // The group of a grouping type in an stbl's body (document 01, part 8): the walk, the table, its rows and the descriptions, in one order of refusals for
 // all that works over a group.
+#![tactic(auto)]
+
 ghost use Rattle.std.specs.Prelude.{◌≡◌};
 ghost use Rattle.base_fields.specs.Answer.{given, and_then};
 ghost use Rattle.table_rows.specs.Pattern.{covered_by};
@@ -19,14 +21,14 @@ use table_records::count_rows;
 use table_runs::{ReadTable, SampleTable, count_samples, read_table};
 
 // The records for a table's rows: so many are lent, or the rows are not written, and 29 cannot arise.
-#[derive(Drop)]
+#[derive(Clone, Copy)]
 pub enum Records {
     Lent(usize),
     Enough,
 }
 
 // Where the payloads of the table and of the sgpd stand in the body, and what was read of them.
-#[derive(Drop)]
+#[derive(Clone, Copy)]
 pub struct GroupAt {
     pub table_place: usize,
     pub table_size: usize,
@@ -38,20 +40,20 @@ pub struct GroupAt {
     pub head: SgpdHead,
 }
 
-#[derive(Drop)]
+#[derive(Clone, Copy)]
 pub enum OpenGroup {
     Group(GroupAt),
     Refused(u32),
 }
 
 // Whether a table's rows can be made.
-#[derive(Drop)]
+#[derive(Clone, Copy)]
 enum CheckedCounts {
     Fit,
     Refused(u32),
 }
 
-#[derive(Drop)]
+#[derive(Clone, Copy)]
 enum Counted {
     Count(u64),
     Refused(u32),

@@ -19,7 +19,7 @@ use table_patterns::{PatternAt, index_at, used_positions};
 use table_runs::{NextPattern, SampleTable, first_pattern, next_pattern};
 
 // The used positions of a pattern: its last index, or the first refusal.
-#[derive(Drop)]
+#[derive(Clone, Copy)]
 enum CheckedPattern {
     Passed(DescriptionIndex),
     Refused(u32),

@@ -1,5 +1,7 @@
 // What a description index means in an sgpd's payload, whether two meanings are like, and the check of the entries that samples use
 // (document 01, part 8).
+#![tactic(auto)]
+
 mod check;
 mod likeness;
 
@@ -13,14 +15,14 @@ use group_sgpd::{FoundEntry, SgpdHead, marked_entry};
 pub use likeness::like;
 
 // What an index means: no entry (index 0), an index past the entries, or an entry's place and length in the sgpd's payload.
-#[derive(Drop)]
+#[derive(Clone, Copy)]
 pub enum MeaningAt {
     Outside,
     Missing,
     Entry(usize, usize),
 }
 
-#[derive(Drop)]
+#[derive(Clone, Copy)]
 pub enum Checked {
     Passed,
     Refused(u32),

@@ -1,4 +1,6 @@
 // How long the cue listing of a table is (document 01, part 8): found before a byte is stored, or that it passes a limit.
+#![tactic(auto)]
+
 ghost use Rattle.std.specs.Prelude.{◌≡◌, ◌+◌, ◌≤◌};
 ghost use Rattle.group_sgpd.specs.Head.{ReadWhole};
 ghost use Rattle.group_sgpd.specs.declared.SgpdHead.{SgpdHead};
@@ -19,7 +21,7 @@ use table_patterns::PatternAt;
 use table_patterns::run::run_at;
 use table_runs::{NextPattern, SampleTable, first_pattern, next_pattern};
 
-#[derive(Drop)]
+#[derive(Clone, Copy)]
 pub enum Measuring {
     // What is in hand behind a pattern.
     Next(Progress),
@@ -27,7 +29,7 @@ pub enum Measuring {
     Over,
 }
 
-#[derive(Drop)]
+#[derive(Clone, Copy)]
 pub enum MeasuredListing {
     Bytes(usize),
     // The listing passes the limit.

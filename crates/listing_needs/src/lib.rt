@@ -1,4 +1,6 @@
 // What a cue listing needs to be lent: records for the table's rows, and bytes of output.
+#![tactic(auto)]
+
 ghost use Rattle.std.specs.Prelude.{◌≡◌};
 ghost use Rattle.group_sgpd.specs.Head.{ReadWhole};
 ghost use Rattle.table_runs.specs.Ahead.{all_in, WholeIn};
@@ -14,13 +16,13 @@ use listing_measure::{MeasuredListing, measure_listing};
 use table_needed::UNLIMITED;
 use table_runs::{SampleTable, count_samples};
 
-#[derive(Drop)]
+#[derive(Clone, Copy)]
 pub struct ListingNeeds {
     pub rows: u64,
     pub bytes: u64,
 }
 
-#[derive(Drop)]
+#[derive(Clone, Copy)]
 pub enum Needs {
     Needs(ListingNeeds),
     Refused(u32),

@@ -1,4 +1,6 @@
 // Numbers in groups of seven bits (document 01, part 8), stored straight into the output.
+#![tactic(auto)]
+
 ghost use Rattle.std.specs.Prelude.{◌+◌, ◌<◌, [], ◌∷◌};
 ghost use Rattle.listing_theorem.specs.Groups.{groups};
 ghost use Rattle.listing_theorem.specs.Listing.{type_bytes};

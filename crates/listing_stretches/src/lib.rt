@@ -1,5 +1,7 @@
 // The stretch of like samples in hand while a table's samples are entered run by run (document 01, part 8), and whole periods of a pattern
 // that are passed in one step.
+#![tactic(auto)]
+
 mod ends;
 mod enter;
 mod periods;
@@ -12,7 +14,7 @@ use listing_meanings::MeaningAt;
 pub use periods::pass_periods;
 
 // A place in the output, and the stretch in hand: how many samples, and the index of its first one. Without samples there is none.
-#[derive(Drop)]
+#[derive(Clone, Copy)]
 pub struct Hand {
     pub at: usize,
     pub samples: u64,
@@ -20,7 +22,7 @@ pub struct Hand {
 }
 
 // What is in hand, what its index means, and how many other indices that mean the same were remembered (see `remember`).
-#[derive(Drop)]
+#[derive(Clone, Copy)]
 pub struct Progress {
     pub hand: Hand,
     pub meaning: MeaningAt,
@@ -28,13 +30,13 @@ pub struct Progress {
 }
 
 // What was in hand at a sample of a pattern.
-#[derive(Drop)]
+#[derive(Clone, Copy)]
 pub struct Mark {
     pub sample: PatternCount,
     pub hand: Hand,
 }
 
-#[derive(Drop)]
+#[derive(Clone, Copy)]
 pub enum Passed {
     // What is in hand, how many samples of the pattern are passed, and the mark.
     On(Hand, PatternCount, Mark),

@@ -1,4 +1,6 @@
 // The value of an entry (document 01, part 8): its fields as numbers in groups of seven bits, or its bytes unaltered.
+#![tactic(auto)]
+
 mod alst;
 mod fields;
 mod plain;

@@ -1,4 +1,6 @@
 // The walk of an stbl's body (document 01, part 8): where the table and the descriptions of a grouping type stand.
+#![tactic(auto)]
+
 mod visit;
 
 ghost use Rattle.std.specs.Prelude.{◌≡◌};
@@ -12,7 +14,7 @@ use table_front::TableKind;
 use visit::visit;
 
 // The place and the length of the bodies of the table and of the sgpd.
-#[derive(Drop)]
+#[derive(Clone, Copy)]
 pub struct SourcesAt {
     pub kind: TableKind,
     pub table_place: usize,
@@ -21,34 +23,34 @@ pub struct SourcesAt {
     pub sgpd_size: usize,
 }
 
-#[derive(Drop)]
+#[derive(Clone, Copy)]
 pub enum FoundSources {
     Sources(SourcesAt),
     Refused(u32),
 }
 
 // The place and the length of the body of a table that was taken.
-#[derive(Drop)]
+#[derive(Clone, Copy)]
 enum SeenTable {
     Nothing,
     At(TableKind, u64, u64),
 }
 
 // The same of an sgpd.
-#[derive(Drop)]
+#[derive(Clone, Copy)]
 enum SeenSgpd {
     Nothing,
     At(u64, u64),
 }
 
 // What the walk has taken so far.
-#[derive(Drop)]
+#[derive(Clone, Copy)]
 struct Seen {
     table: SeenTable,
     sgpd: SeenSgpd,
 }
 
-#[derive(Drop)]
+#[derive(Clone, Copy)]
 enum Visited {
     Next(Seen),
     Refused(u32),

@@ -18,7 +18,7 @@ const CSGP: u32 = 0x6373_6770;
 
 const SGPD: u32 = 0x7367_7064;
 
-#[derive(Drop)]
+#[derive(Clone, Copy)]
 enum NamedBody {
     // The place and the length of a body of the named type.
     Named(u64, u64),

@@ -1,4 +1,6 @@
 // The compact sample-to-group atom csgp (document 01, part 4).
+#![tactic(auto)]
+
 pub mod fill;
 pub mod measure;
 

@@ -10,7 +10,7 @@ use table_replay::enter::Tail;
 use table_replay::singly::enter_singly;
 use table_replay::step::{Stepped, pattern_start, replay_step};
 
-#[derive(Drop)]
+#[derive(Clone, Copy)]
 pub enum Measured {
     Rows(usize),
     Refused(u32),

@@ -1,4 +1,6 @@
 // The patterns of a csgp payload (document 01, part 4): its head, given where all of them are there, and where each of them stands.
+#![tactic(auto)]
+
 mod head;
 mod indices;
 mod walk;
@@ -6,7 +8,7 @@ mod walk;
 pub use self::head::read_csgp;
 pub use self::walk::{first_pattern, pattern_at, patterns_behind};
 
-#[derive(Drop)]
+#[derive(Clone, Copy)]
 pub struct CsgpHead {
     pub grouping_type: u32,
     pub grouping_type_parameter: u32,
@@ -21,28 +23,28 @@ pub struct CsgpHead {
     pub marks: bool,
 }
 
-#[derive(Drop)]
+#[derive(Clone, Copy)]
 pub enum ReadCsgp {
     Head(CsgpHead),
     Refused(u32),
 }
 
 // A row of the pair table.
-#[derive(Drop)]
+#[derive(Clone, Copy)]
 struct PatternPair {
     length: u32,
     count: u32,
 }
 
 // The patterns that are still ahead: how many, and the bit places of the first one's pair and indices.
-#[derive(Drop)]
+#[derive(Clone, Copy)]
 pub struct PatternsAt {
     pub left: u32,
     pub pair: usize,
     pub indices: usize,
 }
 
-#[derive(Drop)]
+#[derive(Clone, Copy)]
 enum Check {
     Passed,
     Refused(u32),

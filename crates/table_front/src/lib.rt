@@ -1,4 +1,6 @@
 // What the payloads of both sample tables begin with (document 01, parts 3 and 4): type, parameter and count.
+#![tactic(auto)]
+
 ghost use Rattle.std.specs.Prelude.{◌≡◌, ◌≤◌, length};
 ghost use Rattle.base_fields.specs.Answer.{given, choose};
 ghost use Rattle.base_fields.specs.Number.{be_at};
@@ -7,13 +9,13 @@ ghost use Rattle.table_front.specs.Told.{told_front};
 
 use base_fields::{INPUT_LIMIT, read_u8, read_u32};
 
-#[derive(Drop)]
+#[derive(Clone, Copy)]
 pub enum TableKind {
     Sbgp,
     Csgp,
 }
 
-#[derive(Drop)]
+#[derive(Clone, Copy)]
 pub struct TableFront {
     pub grouping_type: u32,
     pub grouping_type_parameter: u32,
@@ -23,7 +25,7 @@ pub struct TableFront {
     pub first: usize,
 }
 
-#[derive(Drop)]
+#[derive(Clone, Copy)]
 pub enum ReadFront {
     Front(TableFront),
     Refused(u32),

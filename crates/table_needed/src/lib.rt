@@ -1,4 +1,6 @@
 // How many rows a payload needs: so many records are enough for its reader, and with fewer it answers 29.
+#![tactic(auto)]
+
 ghost use Rattle.std.specs.Prelude.{◌≡◌};
 ghost use Rattle.table_sbgp.specs.Sbgp.{parse_sbgp};
 ghost use Rattle.table_csgp.specs.Table.{parse_csgp};
@@ -12,7 +14,7 @@ use table_records::count_rows;
 use table_runs::SampleTable;
 use table_sbgp::{ReadSbgp, read_sbgp};
 
-#[derive(Drop)]
+#[derive(Clone, Copy)]
 pub enum RowsNeeded {
     Rows(usize),
     Refused(u32),

@@ -1,5 +1,7 @@
 // A pattern of a sample table in its payload: the index at a position, and its samples by runs of one index. An sbgp row is a pattern of
 // length 1.
+#![tactic(auto)]
+
 pub mod run;
 
 ghost use Rattle.std.specs.Prelude.{◌≡◌, ◌+◌, ◌^◌, ◌≤◌, ◌<◌, min, get_or};
@@ -9,7 +11,7 @@ ghost use Rattle.table_patterns.specs.Place.{index_value, index_field, bit_count
 use base_fields::late_bits;
 use base_ids::{DescriptionIndex, LOCAL_MARK, PatternCount};
 
-#[derive(Drop)]
+#[derive(Clone, Copy)]
 pub struct PatternAt {
     // How many indices it has.
     pub length: u32,

@@ -10,7 +10,7 @@ use base_fields::{late_bits, read_u64};
 use base_ids::PatternCount;
 
 // Some samples of one index.
-#[derive(Drop)]
+#[derive(Clone, Copy)]
 pub struct Run {
     pub count: PatternCount,
     pub index: u32,

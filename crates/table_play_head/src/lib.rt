@@ -1,4 +1,6 @@
 // A play head over rows in a lent run of numbers (document 02, A8): by value, then over a head that is lent.
+#![tactic(auto)]
+
 mod row_walk;
 
 ghost use Rattle.std.specs.Prelude.{◌≡◌, ◌≤◌, drop};
@@ -15,7 +17,7 @@ use table_rows::record::record_count;
 
 // Before sample 0, or at a sample: its number, the row that covers it, and the samples of that row before it. Its numbers are as wide as
 // a sum of counts, whatever the width of a count (A13).
-#[derive(Drop)]
+#[derive(Clone, Copy)]
 pub struct PlayHead {
     pub fresh: bool,
     pub sample: u64,
@@ -24,7 +26,7 @@ pub struct PlayHead {
 }
 
 // The head after a call, and what the call answers: the index of its sample, or a refusal, which leaves the head as it was.
-#[derive(Drop)]
+#[derive(Clone, Copy)]
 pub struct Turn {
     pub head: PlayHead,
     pub found: Found,

@@ -8,7 +8,7 @@ use base_ids::RowNumber;
 use table_rows::record::{count_at, description_at, record_count};
 
 // Where a walk over rows ends, and how many samples are left there past the last row.
-#[derive(Drop)]
+#[derive(Clone, Copy)]
 pub struct Walked {
     pub row: usize,
     pub within: u64,

@@ -1,4 +1,6 @@
 // The rows of either table in lent records, in two steps: they are counted, which finds 28 and 29 and writes nothing, and then written.
+#![tactic(auto)]
+
 ghost use Rattle.std.specs.Prelude.{◌≡◌, length};
 ghost use Rattle.base_fields.specs.Answer.{given, and_then};
 ghost use Rattle.table_rows.specs.Row.{Table, records_in, filled, rows_of_table};

@@ -1,4 +1,6 @@
 // A stretch of samples repainted in a lent run of rows (document 02, A10): a preview, and an edit in place.
+#![tactic(auto)]
+
 mod count;
 mod pieces;
 mod write;
@@ -14,7 +16,7 @@ use table_rows::{Covered, covered_samples};
 use write::write_repainted;
 
 // How many rows there are after a repaint.
-#[derive(Drop)]
+#[derive(Clone, Copy)]
 pub enum Repainted {
     Rows(usize),
     Refused(u32),

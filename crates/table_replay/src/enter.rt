@@ -5,14 +5,14 @@ ghost use Rattle.table_replay.specs.Enter.{enter_run, told_entered};
 use base_ids::{COUNT_LIMIT, SampleCount};
 
 // The rows so far: their number, and the last one's count and index.
-#[derive(Drop)]
+#[derive(Clone, Copy)]
 pub struct Tail {
     pub rows: usize,
     pub count: SampleCount,
     pub index: u32,
 }
 
-#[derive(Drop)]
+#[derive(Clone, Copy)]
 pub enum Entered {
     Next(Tail),
     // the last row's count would pass its limit

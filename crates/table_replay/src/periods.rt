@@ -6,13 +6,13 @@ use crate::enter::Tail;
 use base_ids::PatternCount;
 
 // A place in the replay of a pattern: the samples passed, and the rows so far.
-#[derive(Drop)]
+#[derive(Clone, Copy)]
 pub struct Mark {
     pub sample: PatternCount,
     pub tail: Tail,
 }
 
-#[derive(Drop)]
+#[derive(Clone, Copy)]
 pub enum Passed {
     // the rows, the samples passed, and the next mark
     On(Tail, PatternCount, Mark),

@@ -11,7 +11,7 @@ use base_ids::{PatternCount, RECORD_NUMBERS, RowNumber, SampleCount};
 use table_patterns::{PatternAt, read_index};
 use table_rows::record::put_row;
 
-#[derive(Drop)]
+#[derive(Clone, Copy)]
 enum Single {
     Next(Tail),
     // a longer run, or no record left: for `run_at` and `replay_step`

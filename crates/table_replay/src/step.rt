@@ -11,14 +11,14 @@ use table_patterns::PatternAt;
 use table_patterns::run::Run;
 
 // The replay within a pattern: the rows so far, the samples passed, and the mark.
-#[derive(Drop)]
+#[derive(Clone, Copy)]
 pub struct ReplayState {
     pub tail: Tail,
     pub sample: PatternCount,
     pub mark: Mark,
 }
 
-#[derive(Drop)]
+#[derive(Clone, Copy)]
 pub enum Stepped {
     // the next state, and the number of rows that stood before periods were passed
     Next(ReplayState, usize),

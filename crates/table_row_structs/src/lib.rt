@@ -1,4 +1,6 @@
 // Rows of a sample table in a lent run of structs (document 01, parts 3 and 5).
+#![tactic(auto)]
+
 ghost use Rattle.std.specs.Prelude.{◌≡◌, ◌<◌, ◌/◌, length, get_or};
 ghost use Rattle.base_fields.specs.Answer.{given, none};
 ghost use Rattle.table_rows.specs.Row.{record_numbers, records_in, within_records};
@@ -13,34 +15,34 @@ use table_rows::record::{count_at, description_at};
 use table_rows::{Covered, Found};
 
 // A row: so many samples of one description index.
-#[derive(Drop)]
+#[derive(Clone, Copy)]
 pub struct SampleToGroupEntry {
     pub sample_count: SampleCount,
     pub group_description_index: u32,
 }
 
 // How many rows were written.
-#[derive(Drop)]
+#[derive(Clone, Copy)]
 pub enum Written {
     Rows(usize),
     Refused(u32),
 }
 
-#[derive(Drop)]
+#[derive(Clone, Copy)]
 pub enum ReadRow {
     Row(SampleToGroupEntry),
     Nothing,
     Refused(u32),
 }
 
-#[derive(Drop)]
+#[derive(Clone, Copy)]
 pub enum SetRow {
     Set,
     Nothing,
 }
 
 // A lookup under way: the row to look at next, the samples still to pass, and the index that was found.
-#[derive(Drop)]
+#[derive(Clone, Copy)]
 struct Search {
     next: usize,
     left: SampleCount,

@@ -1,4 +1,6 @@
 // Rows of a sample table in a lent run of numbers: the count and the description index of each, one after the other.
+#![tactic(auto)]
+
 pub mod record;
 
 ghost use Rattle.std.specs.Prelude.{◌≡◌, ◌≤◌};
@@ -9,27 +11,27 @@ ghost use Rattle.table_rows.specs.Found.{told_index, told_covered};
 use base_ids::{DescriptionIndex, RECORD_LIMIT, RowNumber, SampleCount, SampleNumber};
 use record::{count_at, description_at, record_count};
 
-#[derive(Drop)]
+#[derive(Clone, Copy)]
 pub enum Found {
     Index(DescriptionIndex),
     Refused(u32),
 }
 
-#[derive(Drop)]
+#[derive(Clone, Copy)]
 pub enum Covered {
     Samples(u64),
     Refused(u32),
 }
 
 // What a table's reader found, beside the rows that it wrote.
-#[derive(Drop)]
+#[derive(Clone, Copy)]
 pub struct SampleToGroup {
     pub grouping_type: u32,
     pub grouping_type_parameter: u32,
     pub entry_count: usize,
 }
 
-#[derive(Drop)]
+#[derive(Clone, Copy)]
 pub enum ParsedTable {
     Table(SampleToGroup),
     Refused(u32),

@@ -1,5 +1,7 @@
 // Both sample tables in one view, straight from the payload and without lent rows: their patterns in order, and their samples by runs of one
 // index. An sbgp row is a pattern of length 1.
+#![tactic(auto)]
+
 mod by_pattern;
 mod by_run;
 
@@ -13,19 +15,19 @@ use table_front::TableKind;
 use table_patterns::PatternAt;
 use table_sbgp::{ReadSbgp, SbgpHead, read_sbgp};
 
-#[derive(Drop)]
+#[derive(Clone, Copy)]
 pub enum SampleTable {
     Rows(SbgpHead),
     Patterns(CsgpHead),
 }
 
-#[derive(Drop)]
+#[derive(Clone, Copy)]
 pub enum ReadTable {
     Table(SampleTable),
     Refused(u32),
 }
 
-#[derive(Drop)]
+#[derive(Clone, Copy)]
 pub enum NextPattern {
     // The first of the patterns ahead, and those behind it.
     Pattern(PatternAt, PatternsAt),
@@ -33,13 +35,13 @@ pub enum NextPattern {
 }
 
 // The patterns ahead, and the samples of the first of them that are passed.
-#[derive(Drop)]
+#[derive(Clone, Copy)]
 pub struct RunCursor {
     pub here: PatternsAt,
     pub sample: PatternCount,
 }
 
-#[derive(Drop)]
+#[derive(Clone, Copy)]
 pub enum NextRun {
     // Some samples, their index, and the cursor behind them.
     Run(PatternCount, DescriptionIndex, RunCursor),

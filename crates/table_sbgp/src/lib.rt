@@ -1,4 +1,6 @@
 // The sample-to-group atom sbgp (document 01, part 3).
+#![tactic(auto)]
+
 ghost use Rattle.std.specs.Prelude.{◌≡◌, ◌++◌, ◌+◌, ◌*◌, ◌≤◌, length, drop};
 ghost use Rattle.table_rows.specs.Row.{record_numbers, records_in, flat};
 ghost use Rattle.table_rows.specs.Found.{GivesTable};
@@ -11,7 +13,7 @@ use table_rows::record::{put_row, record_count};
 use table_rows::{ParsedTable, SampleToGroup};
 
 // The fixed fields, and where the rows stand.
-#[derive(Drop)]
+#[derive(Clone, Copy)]
 pub struct SbgpHead {
     pub grouping_type: u32,
     pub grouping_type_parameter: u32,
@@ -20,7 +22,7 @@ pub struct SbgpHead {
     pub entry_count: u32,
 }
 
-#[derive(Drop)]
+#[derive(Clone, Copy)]
 pub enum ReadSbgp {
     Head(SbgpHead),
     Refused(u32),

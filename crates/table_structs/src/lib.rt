@@ -1,4 +1,6 @@
 // Both sample tables, read into a lent run of row structs (document 01, parts 3 and 4).
+#![tactic(auto)]
+
 mod plan;
 mod stream;
 

@@ -16,7 +16,7 @@ use table_runs::{RunCursor, SampleTable};
 use table_sbgp::{ReadSbgp, SbgpHead, read_sbgp};
 
 // The answer, and the rows that are written: their number, and where they begin.
-#[derive(Drop)]
+#[derive(Clone, Copy)]
 pub struct Plan {
     pub answer: ParsedTable,
     pub count: usize,

@@ -11,7 +11,7 @@ use table_row_structs::SampleToGroupEntry;
 use table_runs::{NextRun, RunCursor, SampleTable, first_run, next_run};
 
 // Of a csgp, the run in hand, which is part of the next row, and the runs behind it. Of an sbgp, the rows.
-#[derive(Drop)]
+#[derive(Clone, Copy)]
 pub struct RowCursor {
     pub run: RunCursor,
     pub count: SampleCount,
@@ -19,7 +19,7 @@ pub struct RowCursor {
 }
 
 // A row, and those behind it.
-#[derive(Drop)]
+#[derive(Clone, Copy)]
 pub struct NextRow {
     pub row: SampleToGroupEntry,
     pub rest: RowCursor,

@@ -1,4 +1,6 @@
 // The sync table stss and the dependency table sdtp (document 02, A6): both are read whole on each call, straight from the atom's body.
+#![tactic(auto)]
+
 ghost use Rattle.std.specs.Prelude.{◌≡◌, ◌+◌, ◌*◌, ◌≤◌, length, ltb};
 ghost use Rattle.base_fields.specs.Answer.{given, choose, and_then, input_limit};
 ghost use Rattle.base_fields.specs.Number.{be_at};
@@ -9,7 +11,7 @@ use base_fields::{INPUT_LIMIT, read_u8, read_u32};
 use base_ids::SampleNumber;
 
 // The fields of a sample in an sdtp, two bits each.
-#[derive(Drop)]
+#[derive(Clone, Copy)]
 pub struct SampleDependency {
     pub is_leading: u8,
     pub sample_depends_on: u8,
@@ -17,21 +19,21 @@ pub struct SampleDependency {
     pub sample_has_redundancy: u8,
 }
 
-#[derive(Drop)]
+#[derive(Clone, Copy)]
 pub enum SyncSample {
     Yes,
     No,
     Refused(u32),
 }
 
-#[derive(Drop)]
+#[derive(Clone, Copy)]
 pub enum LastSync {
     Sample(SampleNumber),
     Nothing,
     Refused(u32),
 }
 
-#[derive(Drop)]
+#[derive(Clone, Copy)]
 pub enum ReadDependency {
     Dependency(SampleDependency),
     Nothing,
@@ -39,7 +41,7 @@ pub enum ReadDependency {
 }
 
 // The greatest number of an stss up to a limit, 0 where there is none.
-#[derive(Drop)]
+#[derive(Clone, Copy)]
 enum UpTo {
     Number(u32),
     Refused(u32),

@@ -1,5 +1,7 @@
 // Sample tables written as atom bodies (document 02, A5): a quote of the exact length, then a write that takes it. Everything is found before a
 // byte is stored.
+#![tactic(auto)]
+
 pub mod csgp;
 pub mod runs;
 pub mod sbgp;
@@ -16,13 +18,13 @@ use sbgp::put_sbgp;
 use table_rows::record::record_count;
 use tally::{Tallied, length_of, tally_rows};
 
-#[derive(Drop)]
+#[derive(Clone, Copy)]
 pub enum QuotedLength {
     Length(usize),
     Refused(u32),
 }
 
-#[derive(Drop)]
+#[derive(Clone, Copy)]
 pub enum WrittenTable {
     Bytes(usize),
     Refused(u32),

@@ -11,14 +11,14 @@ use table_rows::record::{count_at, description_at, record_count};
 const FIELD_LIMIT: SampleCount = 4294967295;
 
 // A row that remains, and the record behind its last row.
-#[derive(Drop)]
+#[derive(Clone, Copy)]
 pub struct RunAt {
     pub count: SampleCount,
     pub index: u32,
     pub next: usize,
 }
 
-#[derive(Drop)]
+#[derive(Clone, Copy)]
 pub enum NextRun {
     Run(RunAt),
     // its count does not fit a field

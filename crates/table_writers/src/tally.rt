@@ -10,7 +10,7 @@ ghost use Rattle.table_writers.specs.Tally.{GivesTally, counted, marks_by, needs
 use super::runs::{NextRun, next_run};
 use base_ids::{LOCAL_MARK, RowNumber, SampleCount};
 
-#[derive(Drop)]
+#[derive(Clone, Copy)]
 pub struct Tally {
     pub rows: usize,
     pub count: SampleCount,
@@ -19,7 +19,7 @@ pub struct Tally {
     pub low: u32,
 }
 
-#[derive(Drop)]
+#[derive(Clone, Copy)]
 pub enum Tallied {
     Rows(Tally),
     // a count does not fit a field

@@ -1,4 +1,6 @@
 // Runs a queue of fragments: rows that cover too many samples beside a full queue, what a refusal leaves, and which fragment leaves. Prints one line for each check.
+#![tactic(auto)]
+
 use libc::STDOUT_FILENO;
 use use_fragment_queue::Queued;
 

@@ -1,5 +1,7 @@
 // Runs what no other program runs, and prints one line for each check: the entries of descriptions as parts of their payload, the
 // samples of a table by runs, tables read into row structs, beside the same tables in flat rows, what a cue listing leaves as it was, and the starred calls.
+#![tactic(auto)]
+
 mod listing;
 mod structs;
 

@@ -7,7 +7,7 @@ use group_entries::{DecodedAlst, DecodedRash, DecodedRoll, decode_alst, decode_r
 use group_sgpd::{FoundEntry, ParsedSgpd, entry_place, parse_sgpd};
 
 // Version 0, type abcd.
-#[derive(Drop)]
+#[derive(Clone, Copy)]
 pub struct SgpdAnswers {
     // 3 entries in 9 bytes.
     pub three: ParsedSgpd,
@@ -44,7 +44,7 @@ pub fn sgpd_calls() -> SgpdAnswers
     }
 }
 
-#[derive(Drop)]
+#[derive(Clone, Copy)]
 pub struct EntryAnswers {
     // 0xFFFE and 0x8000.
     pub back_2: DecodedRoll,

@@ -4,7 +4,7 @@ ghost use Rattle.test_starred_calls.specs.Headers.{headers_answered};
 
 use atom_tree::{ReadHeader, ReadPayload, read_atom_header, read_payload};
 
-#[derive(Drop)]
+#[derive(Clone, Copy)]
 pub struct HeaderAnswers {
     pub no_bytes: ReadHeader,
     pub size_7: ReadHeader,

@@ -1,5 +1,7 @@
 // The starred cases of document 01, and those beside them in its table, as calls of the entries on literal bytes: crates/test_starred has
 // the table over the definitions, and the contracts here say what the code answers. crates/test_parts makes the calls, examples/starred.c the same ones through the C functions.
+#![tactic(auto)]
+
 pub mod descriptions;
 pub mod headers;
 pub mod listing;
@@ -13,7 +15,7 @@ use headers::{HeaderAnswers, header_calls};
 use listing::{ListingAnswer, listing_call};
 use tables::{CsgpAnswers, SbgpAnswers, csgp_calls, sbgp_calls};
 
-#[derive(Drop)]
+#[derive(Clone, Copy)]
 pub struct StarredAnswers {
     pub headers: HeaderAnswers,
     pub sbgp: SbgpAnswers,

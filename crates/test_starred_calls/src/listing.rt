@@ -4,7 +4,7 @@ ghost use Rattle.test_starred_calls.specs.Listing.{listing_answered};
 
 use listing_cue::{CueListing, cue_listing};
 
-#[derive(Drop)]
+#[derive(Clone, Copy)]
 pub struct ListingAnswer {
     pub told: CueListing,
     pub rows: [u32; 4],

@@ -7,7 +7,7 @@ use table_csgp::parse_csgp;
 use table_rows::{Covered, Found, ParsedTable, covered_samples, group_index_for_sample};
 use table_sbgp::parse_sbgp;
 
-#[derive(Drop)]
+#[derive(Clone, Copy)]
 pub struct SbgpAnswers {
     pub read: ParsedTable,
     pub rows: [u32; 6],
@@ -43,7 +43,7 @@ pub fn sbgp_calls() -> SbgpAnswers
     }
 }
 
-#[derive(Drop)]
+#[derive(Clone, Copy)]
 pub struct CsgpAnswers {
     // [1,2,2] count 7, with records enough and with one too few.
     pub period: ParsedTable,

@@ -1,4 +1,6 @@
 // The functions over a lent slice of row structs, from plain values: a local array of rows is lent for the call and handed back.
+#![tactic(auto)]
+
 ghost use Rattle.table_sbgp.specs.Sbgp.{parse_sbgp};
 ghost use Rattle.table_csgp.specs.Table.{parse_csgp};
 ghost use Rattle.table_structs.specs.Table.{GivesTableIn};
@@ -11,7 +13,7 @@ use table_row_structs::{
 };
 use table_rows::{Covered, Found, ParsedTable};
 
-#[derive(Drop)]
+#[derive(Clone, Copy)]
 pub struct TableRead {
     pub answer: ParsedTable,
     pub rows: [SampleToGroupEntry; 4],
@@ -33,7 +35,7 @@ pub fn csgp_over(s: &[u8], mut rows: [SampleToGroupEntry; 4]) -> TableRead
     TableRead { answer, rows }
 }
 
-#[derive(Drop)]
+#[derive(Clone, Copy)]
 pub struct RowsRead {
     pub row: ReadRow,
     pub index: Found,
@@ -54,7 +56,7 @@ pub fn read_over(rows: [SampleToGroupEntry; 4], k: usize, sample: SampleNumber) 
     }
 }
 
-#[derive(Drop)]
+#[derive(Clone, Copy)]
 pub struct RowsWritten {
     pub written: Written,
     pub set: SetRow,

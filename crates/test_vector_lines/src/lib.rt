@@ -2,6 +2,8 @@
 //
 // A line is a record in lower-case hexadecimal. A record, all numbers big-endian: entry (1 byte), count of arguments (1), arguments (8 each),
 // length of the input (2), the input, status (1), count of numbers (1), numbers (8 each). Bytes that a record lacks are read as 0.
+#![tactic(auto)]
+
 mod text;
 
 ghost use Rattle.std.specs.Prelude.{◌≡◌, ◌%◌, ◌<◌, get_or};

@@ -1,4 +1,6 @@
 // Replays the stored answers (data/; docs/VECTORS.md says how they were made) and tells how many differ.
+#![tactic(auto)]
+
 ghost use Rattle.std.specs.Prelude.{◌≤◌};
 
 use libc::STDOUT_FILENO;
@@ -46,7 +48,7 @@ fn differs(record: &[u8]) -> u64
 }
 
 // What was counted: lines, and lines whose answer differs or that cannot be read.
-#[derive(Drop)]
+#[derive(Clone, Copy)]
 struct Counts {
     lines: u64,
     differ: u64,

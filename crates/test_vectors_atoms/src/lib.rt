@@ -1,4 +1,5 @@
 // Stored answers of the Rust for headers, children and bodies: whether the library gives the answer that a record has.
+#![tactic(auto)]
 
 fn header(record: &[u8]) -> bool {
     let mut out = [0u64; 5];

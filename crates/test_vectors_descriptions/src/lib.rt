@@ -1,4 +1,5 @@
 // Stored answers of the Rust for descriptions and typed entries: whether the library gives the answer that a record has.
+#![tactic(auto)]
 
 fn sgpd(record: &[u8]) -> bool {
     let mut out = [0u64; 5];

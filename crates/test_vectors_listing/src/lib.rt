@@ -1,4 +1,5 @@
 // Stored answers for the stbl of a track, cue listings and decode starts: whether the library gives the answer that a record has.
+#![tactic(auto)]
 
 // The record's numbers are the two lengths, then the rows, then the listing's bytes, eight to a number.
 fn same_numbers(seen: &[u8], size: u64, count: u64, rows: &[u32], listing: &[u8]) -> bool {

@@ -1,4 +1,5 @@
 // Stored answers for sample tables, lookups, all entries or points at once, and sync and dependency tables: whether the library gives the answer that a record has.
+#![tactic(auto)]
 
 // The record has this status and, with 0, the table's head, of so many bytes, and then its rows.
 fn same_table(

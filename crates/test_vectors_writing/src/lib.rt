@@ -1,4 +1,5 @@
 // Stored answers for tables that are quoted and written: whether the library gives the answer that a record has. The record's input is a run of rows.
+#![tactic(auto)]
 
 // What stands in an output before the call.
 const BEFORE: u8 = 165;

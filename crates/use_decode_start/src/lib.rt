@@ -1,4 +1,6 @@
 // Where decoding begins for a frame (document 02, A3): the latest sample from which a decoder can start and be clean in time.
+#![tactic(auto)]
+
 mod distances;
 mod positions;
 mod search;
@@ -19,7 +21,7 @@ use listing_group::{OpenGroup, Records, open_group};
 use search::search_table;
 use table_runs::SampleTable;
 
-#[derive(Drop)]
+#[derive(Clone, Copy)]
 pub enum DecodeStart {
     Sample(SampleNumber),
     Nothing,
@@ -27,7 +29,7 @@ pub enum DecodeStart {
 }
 
 // The distance of a member; nothing of other samples.
-#[derive(Drop)]
+#[derive(Clone, Copy)]
 enum Distance {
     Nothing,
     // 0 or more.
@@ -37,14 +39,14 @@ enum Distance {
 }
 
 // The distance of an index, or its decoder's refusal.
-#[derive(Drop)]
+#[derive(Clone, Copy)]
 enum Decoded {
     Distance(Distance),
     Refused(u32),
 }
 
 // The greatest begin so far, as how many samples there are up to it (0: there is none), or a decoder's refusal.
-#[derive(Drop)]
+#[derive(Clone, Copy)]
 enum SearchedFor {
     Latest(u64),
     Refused(u32),

@@ -1,5 +1,7 @@
 // A queue of up to 64 fragments of a live sky (document 02, A12), in 132 numbers that the caller lends: the slot of the oldest fragment, how many are held, both sums,
 // and 64 slots of covered and member samples. A queue whose first four numbers are 0 is empty.
+#![tactic(auto)]
+
 mod row_count;
 
 ghost use Rattle.std.specs.Prelude.{◌≡◌};
@@ -13,21 +15,21 @@ use row_count::{Counted, count_fragment};
 use table_rows::record::record_count;
 
 // A call was taken, or refused: then the queue is as it was.
-#[derive(Drop)]
+#[derive(Clone, Copy)]
 pub enum Queued {
     Done,
     Refused(u32),
 }
 
 // The fragment that covers a sample, the oldest being 0, and the sample within it.
-#[derive(Drop)]
+#[derive(Clone, Copy)]
 pub enum Located {
     Place(u64, u64),
     Refused(u32),
 }
 
 // How many fragments are held, and the sums of their samples.
-#[derive(Drop)]
+#[derive(Clone, Copy)]
 pub struct Sums {
     pub fragments: u64,
     pub covered: u64,

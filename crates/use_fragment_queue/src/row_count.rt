@@ -11,14 +11,14 @@ use table_rows::record::{count_at, description_at, record_count};
 const COVER_LIMIT: u64 = 4294967295;
 
 // The samples of a fragment, and those of them with an index other than 0.
-#[derive(Drop)]
+#[derive(Clone, Copy)]
 pub struct FragmentSamples {
     pub covered: u64,
     pub members: u64,
 }
 
 // A fragment, or more samples than one may have.
-#[derive(Drop)]
+#[derive(Clone, Copy)]
 pub enum Counted {
     Fragment(FragmentSamples),
     Over,

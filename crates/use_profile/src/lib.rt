@@ -1,4 +1,6 @@
 // The dome profile (document 02, A14): whether a film's random access points meet the rules, or the first rule that they break.
+#![tactic(auto)]
+
 mod kinds;
 mod rules;
 mod stretches;
@@ -22,7 +24,7 @@ use rules::judge;
 use survey::survey_table;
 use table_runs::SampleTable;
 
-#[derive(Drop)]
+#[derive(Clone, Copy)]
 pub enum Verdict {
     Meets,
     // The first rule broken, counted from 1.
@@ -31,7 +33,7 @@ pub enum Verdict {
 }
 
 // What an index means: kinds 0 and 1, and kind 2 by what it says of its leading samples.
-#[derive(Drop)]
+#[derive(Clone, Copy)]
 enum SampleKind {
     Outside,
     Missing,
@@ -40,7 +42,7 @@ enum SampleKind {
 }
 
 // Of samples in order: whether all are of kinds 0 and 1, and how many are so in front, at the back, and in a row at most.
-#[derive(Drop)]
+#[derive(Clone, Copy)]
 struct Gaps {
     whole: bool,
     front: u64,
@@ -49,7 +51,7 @@ struct Gaps {
 }
 
 // Beside that, whether none is of kind 2 with unknown leading samples, and whether none is of kind 1.
-#[derive(Drop)]
+#[derive(Clone, Copy)]
 struct Seen {
     gaps: Gaps,
     known: bool,

@@ -1,4 +1,6 @@
 // The group of a sample, without lent rows: its index, and where the entry stands that it leads to.
+#![tactic(auto)]
+
 mod parts;
 
 ghost use Rattle.std.specs.Prelude.{◌≡◌};
@@ -11,7 +13,7 @@ use base_ids::{DescriptionIndex, SampleNumber};
 use listing_group::{OpenGroup, Records, open_group};
 use parts::{entry_of, group_from, index_of};
 
-#[derive(Drop)]
+#[derive(Clone, Copy)]
 pub enum SampleGroup {
     // Outside every group: index 0.
     Outside,
