@@ -21,6 +21,12 @@ pub both-and_then : {A B C D : Type 0} (R : A → B → Type 0) (Q : C → D →
 both-and_then R Q (given a) (given b) f g h k = k a b refl refl h
 both-and_then R Q none none f g h k = tt
 both-and_then R Q (refused m) (refused n) f g h k = h
+both-and_then {A = A} {B = B} {C = C} {D = D} R Q (given a) none f g h k = elim h [ ]
+both-and_then {A = A} {B = B} {C = C} {D = D} R Q (given a) (refused n) f g h k = elim h [ ]
+both-and_then {A = A} {B = B} {C = C} {D = D} R Q none (given b) f g h k = elim h [ ]
+both-and_then {A = A} {B = B} {C = C} {D = D} R Q none (refused n) f g h k = elim h [ ]
+both-and_then {A = A} {B = B} {C = C} {D = D} R Q (refused m) (given b) f g h k = elim h [ ]
+both-and_then {A = A} {B = B} {C = C} {D = D} R Q (refused m) none f g h k = elim h [ ]
 
 pub both_refuse : {A B : Type 0} (R : A → B → Type 0) (test : Bool) (n : ℕ) (x : Answer A) (y : Answer B)
     → (test ≡ false → Both R x y) → Both R (refuse_if test n x) (refuse_if test n y)
@@ -38,11 +44,23 @@ pub both_equal : {A B C : Type 0} (f : A → C) (g : B → C) (x : Answer A) (y 
 both_equal f g (given a) (given b) h = ap given h
 both_equal f g none none h = refl
 both_equal f g (refused m) (refused n) h = ap refused h
+both_equal {A = A} {B = B} {C = C} f g (given a) none h = elim h [ ]
+both_equal {A = A} {B = B} {C = C} f g (given a) (refused n) h = elim h [ ]
+both_equal {A = A} {B = B} {C = C} f g none (given b) h = elim h [ ]
+both_equal {A = A} {B = B} {C = C} f g none (refused n) h = elim h [ ]
+both_equal {A = A} {B = B} {C = C} f g (refused m) (given b) h = elim h [ ]
+both_equal {A = A} {B = B} {C = C} f g (refused m) none h = elim h [ ]
 
 pub both_is : {A : Type 0} (x y : Answer A) → Both (λ a b. a ≡ b) x y → x ≡ y
 both_is (given a) (given b) h = ap given h
 both_is none none h = refl
 both_is (refused m) (refused n) h = ap refused h
+both_is {A = A} (given a) none h = elim h [ ]
+both_is {A = A} (given a) (refused n) h = elim h [ ]
+both_is {A = A} none (given b) h = elim h [ ]
+both_is {A = A} none (refused n) h = elim h [ ]
+both_is {A = A} (refused m) (given b) h = elim h [ ]
+both_is {A = A} (refused m) none h = elim h [ ]
 
 -- what stands behind a test needs to agree only where it is reached
 pub refuse_same : {A : Type 0} (test : Bool) (n : ℕ) {x y : Answer A} → (test ≡ false → x ≡ y) → refuse_if test n x ≡ refuse_if test n y

@@ -25,6 +25,7 @@ Firm a = RefusesBy Other ⊥ a
 pub firm-settled : {A : Type 0} (a : Answer A) → Firm a → Settled a
 firm-settled (given x) f = tt
 firm-settled (refused n) f = tt
+firm-settled {A = A} none f = elim f [ ]
 
 -- such an answer is not 29
 pub firm-never_29 : {A : Type 0} (a : Answer A) → Firm a → a ≡ refused 29 → ⊥
