@@ -29,6 +29,10 @@ module _ {s : List ℕ} {n : ℕ} {r : LengthCheck} (e : GivesLength s n r) wher
 pub record ToldWithin {A : Type 0} (s : List ℕ) (x y : Answer A) : Type 0 where
   pub told : y ≡ within s x
 
+-- what a decoder told, at the case that it is
+pub told-at : {A D : Type 0} (told : D → Answer A) {s : List ℕ} {x : Answer A} {r q : D} → told r ≡ within s x → r ≡ q → ToldWithin s x (told q)
+told-at told h e = record { told = ap told (sym e) ∙ h }
+
 -- read by number, from the decoder's answer
 module _ {A B : Type 0} {s : List ℕ} {x : Answer A} (count : A → ℕ) (k : ℕ) (b : B) where
   numbered : {y : Answer A} → ToldWithin s x y → and_then y (λ v. none_if (leb (count v) k) (given b)) ≡ within s (by_number x count k b)

@@ -1,0 +1,29 @@
+-- The decoder's refusals first, none past the count (the laws of Front.antt); what is read lies inside by the extent that a decoded value tells.
+use mathlib.Core.Path.{◌≡◌, ap, sym, ◌∙◌}
+use native.Mathlib.Omega.{arith}
+use Rattle.base_fields.specs.Answer.{given}
+use Rattle.group_entries.specs.Decoded.{decode_alst, offset_at}
+use Rattle.group_entries.specs.Told.{told_alst}
+use Rattle.group_entries.specs.declared.DecodedAlst.{DecodedAlst}
+use Rattle.group_entries.proofs.Front.{told-at, number-refused, number-none, number-given}
+use Rattle.group_entries.proofs.Extent.{AlstExtent, alst-extent}
+use Rattle.group_entries.proofs.alst.alst_sample_offset.Goals as goal
+use Rattle.group_entries.proofs.alst.alst_sample_offset.Goals.{In-Alst}
+
+-- the offsets and the pairs fill the payload
+extent : (c : In-Alst) → AlstExtent c.args.payload.now c.in-Alst.v.roll_count c.in-Alst.v.piece_count
+extent c = alst-extent (told-at told_alst c.decode_alst.ensures c.in-Alst.is)
+
+pub returns-in-Refused : goal.returns-in-Refused
+returns-in-Refused c = number-refused _ _ _ (told-at told_alst c.decode_alst.ensures c.in-Refused.is)
+
+pub returns-then-plain-k : goal.returns-then-plain-k
+returns-then-plain-k c = number-none _ _ _ (told-at told_alst c.decode_alst.ensures c.in-Alst.is) c.if-plain-k.true
+
+pub read_u32-requires : goal.read_u32-requires
+read_u32-requires c = let x = extent (goal.at.read_u32-requires c).In-Alst in omega arith
+
+pub returns : goal.returns
+unfolding offset_at
+returns c =
+    ap given c.read_u32.ensures.0 ∙ number-given _ _ _ (told-at told_alst c.decode_alst.ensures c.in-Alst.is) c.if-plain-k.false
