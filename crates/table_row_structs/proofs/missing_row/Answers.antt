@@ -1,0 +1,8 @@
+use borrow.Author.Tests.{lt-ltb, le-ltb}
+use Rattle.table_row_structs.proofs.missing_row.Goals as goal
+
+pub returns-then-n-gt-RECORD_LIMIT : goal.returns-then-n-gt-RECORD_LIMIT
+returns-then-n-gt-RECORD_LIMIT c = simp (lt-ltb _ _ c.if-n-gt-RECORD_LIMIT.true)
+
+pub returns : goal.returns
+returns c = simp (le-ltb _ _ c.if-n-gt-RECORD_LIMIT.false)
