@@ -67,6 +67,9 @@ short-refused Roll n p s h = simp (lt-ltb _ _ (rw p at h))
 short-refused Rap n p s h = simp (lt-ltb _ _ (rw p at h))
 short-refused Tele n p s h = simp (lt-ltb _ _ (rw p at h))
 short-refused Sap n p s h = simp (lt-ltb _ _ (rw p at h))
+short-refused Rash n p s h = elim p [ ]
+short-refused Alst n p s h = elim p [ ]
+short-refused Raw n p s h = elim p [ ]
 
 pub short-front : (l : EntryLayout) (n : ℕ) → Short l n → (s : List ℕ) → n ≤ length s → FrontIs (given n) l s
 unfolding decode_roll decode_rap decode_tele decode_sap
@@ -74,6 +77,9 @@ short-front Roll n p s h = rw p (simp (le-ltb _ _ (rw p at h)))
 short-front Rap n p s h = rw p (simp (le-ltb _ _ (rw p at h)))
 short-front Tele n p s h = rw p (simp (le-ltb _ _ (rw p at h)))
 short-front Sap n p s h = rw p (simp (le-ltb _ _ (rw p at h)))
+short-front Rash n p s h = elim p [ ]
+short-front Alst n p s h = elim p [ ]
+short-front Raw n p s h = elim p [ ]
 
 pub front-within : (l : EntryLayout) (s : List ℕ) → Sized l s → front_size l s ≤ length s
 front-within Roll s h = h

@@ -54,6 +54,7 @@ settled-refuse_if false n rest h = h
 
 settled-and_then : {A B : Type 0} (a : Answer A) (f : A → Answer B) → Settled a → ((x : A) → Settled (f x)) → Settled (and_then a f)
 settled-and_then (given x) f h g = g x
+settled-and_then none f h g = elim h [ ]
 settled-and_then (refused n) f h g = tt
 
 whole-settled : (s : List ℕ) (p k : ℕ) → Settled (whole s p k)

@@ -1,0 +1,74 @@
+use mathlib.Core.Path.{◌≡◌, refl, ap, sym, ◌∙◌}
+use Prim.Native.Nat.{◌+◌, ◌-◌, ◌≤◌, ◌<◌}
+use native.Mathlib.Omega.{arith}
+use lib.ListN.{length-set}
+use borrow.Author.Rules.{rules}
+use Rattle.base_fields.specs.Answer.{given, input_limit}
+use Rattle.base_fields.specs.Span.{Span}
+use Rattle.group_sgpd.specs.Sgpd.{span_at}
+use Rattle.group_sgpd.specs.Head.{after, told_span}
+use Rattle.group_sgpd.proofs.Entries.{span_at-inside}
+use Rattle.group_sgpd.proofs.Heads.{first-is, among}
+use Rattle.group_sgpd.proofs.Onward.{first-inside}
+use Rattle.group_sgpd.proofs.Placed.{placed_first, placed-all, entry_kept, after_next, placed-next}
+use Rattle.group_sgpd.proofs.places.put_places.Goals as goal
+use Rattle.group_sgpd.proofs.places.put_places.Goals.{In-Entry}
+
+-- a turn of the loop, and the entry that was read at its place
+module _ (c : In-Entry) where
+  abbrev read : Span
+  read = record { place = c.in-Entry.place; size = c.in-Entry.size }
+
+  entered : span_at c.args.s.now c.loop-k.at ≡ given read
+  entered = sym (ap told_span (sym c.in-Entry.is) ∙ c.span_at.ensures)
+
+  inside : read.place + read.size ≤ input_limit
+  inside = omega (arith, span_at-inside _ _ entered, c.requires.read_whole.head.short)
+
+pub loop-k-init : goal.loop-k-init
+unfolding after
+loop-k-init c =
+    let r = c.requires.read_whole in
+    (search rules, rw (first-is r.head) refl, refl, sym (placed_first r _))
+
+pub span_at-requires : goal.span_at-requires
+span_at-requires c =
+    let r = c.requires.read_whole.head in
+    record { among = among r c.lengths_by-lengths.ensures (first-inside r _ c.loop-k.invariant.1); count_nonzero = omega arith }
+
+pub overflow_cast-run : goal.overflow_cast-run
+overflow_cast-run c = omega (arith, inside c)
+
+pub overflow_cast-run-in-Entry : goal.overflow_cast-run-in-Entry
+overflow_cast-run-in-Entry c = omega (arith, inside (goal.at.overflow_cast-run-in-Entry c).In-Entry)
+
+pub bounds-run-i-in-Entry : goal.bounds-run-i-in-Entry
+bounds-run-i-in-Entry c = simp length-set (omega arith)
+
+pub overflow_add-at : goal.overflow_add-at
+overflow_add-at c = omega (arith, inside (goal.at.overflow_add-at c).In-Entry)
+
+pub loop-k-preserved : goal.loop-k-preserved
+loop-k-preserved c =
+    let r = c.requires.read_whole in
+    let k = c.loop-k.k in
+    let i = c.loop-k.invariant in
+    let l : k < c.args.head.entry_count = omega arith in
+    (search rules, after_next r k l i.1 (entered (goal.at.loop-k-preserved c).In-Entry), simp length-set i.2, rw i.3 (placed-next r k l i.1 (entered (goal.at.loop-k-preserved c).In-Entry) _ c.requires.entry_count_in_bounds))
+
+pub shape_of-run-in-Refused : goal.shape_of-run-in-Refused
+shape_of-run-in-Refused c = c.loop-k.invariant.2
+
+pub returns-in-Refused : goal.returns-in-Refused
+returns-in-Refused c =
+    absurd
+    (entry_kept c.requires.read_whole c.loop-k.k (omega arith) c.loop-k.invariant.1
+    (sym (ap told_span (sym c.in-Refused.is) ∙ c.span_at.ensures)))
+
+pub shape_of-run : goal.shape_of-run
+shape_of-run c = c.loop-k.invariant.2
+
+pub returns : goal.returns
+returns c =
+    let e : c.loop-k.k ≡ c.args.head.entry_count = omega arith in
+    (rw e at c.loop-k.invariant.3) ∙ placed-all c.requires.read_whole _
