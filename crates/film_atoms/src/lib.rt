@@ -94,43 +94,28 @@ fn put_payload(body: ReadPayload, out: &mut [u64; 2]) -> u32
 }
 
 // out: type, open (0 or 1), total size (0 if open), header length, place of the body.
-#[unsafe(no_mangle)]
-pub extern "C" fn film_read_atom_header(s: &[u8], at: u64, out: &mut [u64; 5]) -> u32
+pub fn film_read_atom_header(s: &[u8], at: u64, out: &mut [u64; 5]) -> u32
     ensures { Returns (header_at s.now at) header_numbers out.old out.new result }
 {
     put_header(atom_tree::read_atom_header(s, at), out)
 }
 
 // out: place of the next child, then the numbers of the child's header. The parent's end counts where `known` is not 0.
-#[unsafe(no_mangle)]
-pub extern "C" fn film_next_child(
-    s: &[u8],
-    at: u64,
-    known: u32,
-    end: u64,
-    out: &mut [u64; 6],
-) -> u32
+pub fn film_next_child(s: &[u8], at: u64, known: u32, end: u64, out: &mut [u64; 6]) -> u32
     ensures { Returns (child_at s.now at (end_from known end)) child_numbers out.old out.new result }
 {
     put_child(atom_tree::next_child(s, at, parent_end(known, end)), out)
 }
 
 // out: place and length of the body.
-#[unsafe(no_mangle)]
-pub extern "C" fn film_read_payload(s: &[u8], at: u64, out: &mut [u64; 2]) -> u32
+pub fn film_read_payload(s: &[u8], at: u64, out: &mut [u64; 2]) -> u32
     ensures { Returns (body_at s.now at none) body_numbers out.old out.new result }
 {
     put_payload(atom_tree::read_payload(s, at), out)
 }
 
 // The same under an envelope of `max_remaining` bytes.
-#[unsafe(no_mangle)]
-pub extern "C" fn film_read_payload_bounded(
-    s: &[u8],
-    at: u64,
-    max_remaining: u64,
-    out: &mut [u64; 2],
-) -> u32
+pub fn film_read_payload_bounded(s: &[u8], at: u64, max_remaining: u64, out: &mut [u64; 2]) -> u32
     ensures { Returns (body_at s.now at (some max_remaining)) body_numbers out.old out.new result }
 {
     put_payload(atom_tree::read_payload_bounded(s, at, max_remaining), out)

@@ -14,8 +14,7 @@ use group_fragments::FoundPart;
 use group_sgpd::{FoundEntry, ParsedSgpd};
 
 // out: version, type, default length, default index, entry count.
-#[unsafe(no_mangle)]
-pub extern "C" fn film_parse_sgpd(s: &[u8], out: &mut [u64; 5]) -> u32
+pub fn film_parse_sgpd(s: &[u8], out: &mut [u64; 5]) -> u32
     ensures { Returns (parse_sgpd s.now) description_numbers out.old out.new result }
 {
     let read = group_sgpd::parse_sgpd(s);
@@ -33,8 +32,7 @@ pub extern "C" fn film_parse_sgpd(s: &[u8], out: &mut [u64; 5]) -> u32
 }
 
 // out: place and length of an entry (counted from 1) in the payload.
-#[unsafe(no_mangle)]
-pub extern "C" fn film_entry_place(s: &[u8], index: u32, out: &mut [u64; 2]) -> u32
+pub fn film_entry_place(s: &[u8], index: u32, out: &mut [u64; 2]) -> u32
     ensures { Returns (entry_at s.now index) span_numbers out.old out.new result }
 {
     let read = group_sgpd::entry_place(s, DescriptionIndex(index));
@@ -50,16 +48,14 @@ pub extern "C" fn film_entry_place(s: &[u8], index: u32, out: &mut [u64; 2]) -> 
 }
 
 // places: place and length of each entry, in front of the lent run. out: entry count.
-#[unsafe(no_mangle)]
-pub extern "C" fn film_entry_places(s: &[u8], places: &mut [u32], out: &mut [u64; 1]) -> u32
+pub fn film_entry_places(s: &[u8], places: &mut [u32], out: &mut [u64; 1]) -> u32
     ensures { FillsRecords (all_entries s.now places.old) (λ e. e.place) (λ e. e.size) places.old places.new out.old out.new result }
 {
     put_records(group_sgpd::entry_places(s, places), out)
 }
 
 // out: the index without bit 31, and that bit. There is nothing to refuse, and no status.
-#[unsafe(no_mangle)]
-pub extern "C" fn film_split_csgp_index(raw: u32, out: &mut [u64; 2])
+pub fn film_split_csgp_index(raw: u32, out: &mut [u64; 2])
     ensures { out.new ≡ stored split_numbers (given raw) out.old }
 {
     let split = group_fragments::split_csgp_index(raw);
@@ -68,13 +64,7 @@ pub extern "C" fn film_split_csgp_index(raw: u32, out: &mut [u64; 2])
 }
 
 // out: 1 where the part is the fragment's, its place and its length.
-#[unsafe(no_mangle)]
-pub extern "C" fn film_described_place(
-    film: &[u8],
-    fragment: &[u8],
-    raw: u32,
-    out: &mut [u64; 3],
-) -> u32
+pub fn film_described_place(film: &[u8], fragment: &[u8], raw: u32, out: &mut [u64; 3]) -> u32
     ensures { Returns (described_at film.now fragment.now raw) part_numbers out.old out.new result }
 {
     let read = group_fragments::described_place(film, fragment, raw);
@@ -97,8 +87,7 @@ pub extern "C" fn film_described_place(
 }
 
 // The bitrate of a point, of which a share is given in percent.
-#[unsafe(no_mangle)]
-pub extern "C" fn film_rate_of_point(bitrate: u32, share: u16) -> u64
+pub fn film_rate_of_point(bitrate: u32, share: u16) -> u64
     ensures { result ≡ rate_of bitrate share }
 {
     group_fragments::rate_of_point(bitrate, share)

@@ -23,24 +23,21 @@ fn put_roll(read: DecodedRoll, out: &mut [i64; 1]) -> u32
 }
 
 // out: the distance, signed.
-#[unsafe(no_mangle)]
-pub extern "C" fn film_decode_roll(s: &[u8], out: &mut [i64; 1]) -> u32
+pub fn film_decode_roll(s: &[u8], out: &mut [i64; 1]) -> u32
     ensures { Returns (within s.now (decode_roll s.now)) roll_numbers out.old out.new result }
 {
     put_roll(group_entries::decode_roll(s), out)
 }
 
 // The same layout as a roll.
-#[unsafe(no_mangle)]
-pub extern "C" fn film_decode_prol(s: &[u8], out: &mut [i64; 1]) -> u32
+pub fn film_decode_prol(s: &[u8], out: &mut [i64; 1]) -> u32
     ensures { Returns (within s.now (decode_roll s.now)) roll_numbers out.old out.new result }
 {
     put_roll(group_entries::decode_prol(s), out)
 }
 
 // out: known (0 or 1), number of leading samples.
-#[unsafe(no_mangle)]
-pub extern "C" fn film_decode_rap(s: &[u8], out: &mut [u64; 2]) -> u32
+pub fn film_decode_rap(s: &[u8], out: &mut [u64; 2]) -> u32
     ensures { Returns (within s.now (decode_rap s.now)) rap_numbers out.old out.new result }
 {
     let read = group_entries::decode_rap(s);
@@ -55,8 +52,7 @@ pub extern "C" fn film_decode_rap(s: &[u8], out: &mut [u64; 2]) -> u32
 }
 
 // out: independently decodable (0 or 1).
-#[unsafe(no_mangle)]
-pub extern "C" fn film_decode_tele(s: &[u8], out: &mut [u64; 1]) -> u32
+pub fn film_decode_tele(s: &[u8], out: &mut [u64; 1]) -> u32
     ensures { Returns (within s.now (decode_tele s.now)) tele_numbers out.old out.new result }
 {
     let read = group_entries::decode_tele(s);
@@ -70,8 +66,7 @@ pub extern "C" fn film_decode_tele(s: &[u8], out: &mut [u64; 1]) -> u32
 }
 
 // out: dependent (0 or 1), type.
-#[unsafe(no_mangle)]
-pub extern "C" fn film_decode_sap(s: &[u8], out: &mut [u64; 2]) -> u32
+pub fn film_decode_sap(s: &[u8], out: &mut [u64; 2]) -> u32
     ensures { Returns (within s.now (decode_sap s.now)) sap_numbers out.old out.new result }
 {
     let read = group_entries::decode_sap(s);
@@ -86,8 +81,7 @@ pub extern "C" fn film_decode_sap(s: &[u8], out: &mut [u64; 2]) -> u32
 }
 
 // out: point count, maximum, minimum, priority.
-#[unsafe(no_mangle)]
-pub extern "C" fn film_decode_rash(s: &[u8], out: &mut [u64; 4]) -> u32
+pub fn film_decode_rash(s: &[u8], out: &mut [u64; 4]) -> u32
     ensures { Returns (within s.now (decode_rash s.now)) rash_numbers out.old out.new result }
 {
     let read = group_entries::decode_rash(s);
@@ -104,8 +98,7 @@ pub extern "C" fn film_decode_rash(s: &[u8], out: &mut [u64; 4]) -> u32
 }
 
 // out: roll count, first output sample, piece count.
-#[unsafe(no_mangle)]
-pub extern "C" fn film_decode_alst(s: &[u8], out: &mut [u64; 3]) -> u32
+pub fn film_decode_alst(s: &[u8], out: &mut [u64; 3]) -> u32
     ensures { Returns (within s.now (decode_alst s.now)) alst_numbers out.old out.new result }
 {
     let read = group_entries::decode_alst(s);

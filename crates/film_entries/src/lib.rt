@@ -19,13 +19,7 @@ pub use number::{
 };
 
 // out: 1 where two entries of one grouping type decode to the same value, else 0.
-#[unsafe(no_mangle)]
-pub extern "C" fn film_decode_alike(
-    grouping_type: u32,
-    a: &[u8],
-    b: &[u8],
-    out: &mut [u64; 1],
-) -> u32
+pub fn film_decode_alike(grouping_type: u32, a: &[u8], b: &[u8], out: &mut [u64; 1]) -> u32
     ensures { Returns (alike grouping_type a.now b.now) alike_numbers out.old out.new result }
 {
     let read = group_alike::likeness_of(grouping_type, a, b);

@@ -8,8 +8,7 @@ use film_status::{NONE, put_records};
 use group_entries::{ReadOffset, ReadPiece, ReadPoint};
 
 // out: bitrate and share of point k, counted from 0.
-#[unsafe(no_mangle)]
-pub extern "C" fn film_rash_operation_point(s: &[u8], k: u32, out: &mut [u64; 2]) -> u32
+pub fn film_rash_operation_point(s: &[u8], k: u32, out: &mut [u64; 2]) -> u32
     ensures { Returns (within s.now (rash_point s.now k)) point_numbers out.old out.new result }
 {
     let read = group_entries::rash_operation_point(s, k);
@@ -25,20 +24,14 @@ pub extern "C" fn film_rash_operation_point(s: &[u8], k: u32, out: &mut [u64; 2]
 }
 
 // points: bitrate and share of each point, in front of the lent run. out: point count.
-#[unsafe(no_mangle)]
-pub extern "C" fn film_rash_operation_points(
-    s: &[u8],
-    points: &mut [u32],
-    out: &mut [u64; 1],
-) -> u32
+pub fn film_rash_operation_points(s: &[u8], points: &mut [u32], out: &mut [u64; 1]) -> u32
     ensures { FillsRecords (within s.now (rash_points s.now points.old)) (λ p. p.bitrate) (λ p. p.share) points.old points.new out.old out.new result }
 {
     put_records(group_entries::rash_operation_points(s, points), out)
 }
 
 // out: sample offset k, counted from 0.
-#[unsafe(no_mangle)]
-pub extern "C" fn film_alst_sample_offset(s: &[u8], k: u32, out: &mut [u64; 1]) -> u32
+pub fn film_alst_sample_offset(s: &[u8], k: u32, out: &mut [u64; 1]) -> u32
     ensures { Returns (within s.now (alst_offset s.now k)) one_number out.old out.new result }
 {
     let read = group_entries::alst_sample_offset(s, k);
@@ -53,8 +46,7 @@ pub extern "C" fn film_alst_sample_offset(s: &[u8], k: u32, out: &mut [u64; 1]) 
 }
 
 // out: output and total samples of piece k, counted from 0.
-#[unsafe(no_mangle)]
-pub extern "C" fn film_alst_piece(s: &[u8], k: u32, out: &mut [u64; 2]) -> u32
+pub fn film_alst_piece(s: &[u8], k: u32, out: &mut [u64; 2]) -> u32
     ensures { Returns (within s.now (alst_pair s.now k)) pair_numbers out.old out.new result }
 {
     let read = group_entries::alst_piece(s, k);

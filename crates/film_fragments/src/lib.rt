@@ -11,8 +11,7 @@ use base_ids::RowNumber;
 use use_fragment_queue::{Located, Queued};
 
 // A fragment comes with its rows.
-#[unsafe(no_mangle)]
-pub extern "C" fn film_fragment_arrive(queue: &mut [u64; 132], rows: &[RowNumber]) -> u32
+pub fn film_fragment_arrive(queue: &mut [u64; 132], rows: &[RowNumber]) -> u32
     ensures { GivesCall (arrive (rows_of rows.now)) queue.old queue.new result }
 {
     match use_fragment_queue::fragment_arrive(queue, rows) {
@@ -22,8 +21,7 @@ pub extern "C" fn film_fragment_arrive(queue: &mut [u64; 132], rows: &[RowNumber
 }
 
 // The oldest fragment leaves.
-#[unsafe(no_mangle)]
-pub extern "C" fn film_fragment_depart(queue: &mut [u64; 132]) -> u32
+pub fn film_fragment_depart(queue: &mut [u64; 132]) -> u32
     ensures { GivesCall depart queue.old queue.new result }
 {
     match use_fragment_queue::fragment_depart(queue) {
@@ -33,8 +31,7 @@ pub extern "C" fn film_fragment_depart(queue: &mut [u64; 132]) -> u32
 }
 
 // out: the fragment that covers a sample, the oldest being 0, and the sample within it.
-#[unsafe(no_mangle)]
-pub extern "C" fn film_fragment_lookup(queue: &[u64; 132], sample: u64, out: &mut [u64; 2]) -> u32
+pub fn film_fragment_lookup(queue: &[u64; 132], sample: u64, out: &mut [u64; 2]) -> u32
     ensures { GivesLookup queue.now sample out.old out.new result }
 {
     match use_fragment_queue::fragment_lookup(queue, sample) {
@@ -48,8 +45,7 @@ pub extern "C" fn film_fragment_lookup(queue: &[u64; 132], sample: u64, out: &mu
 }
 
 // out: how many fragments are held, the samples that they cover, and the members among these.
-#[unsafe(no_mangle)]
-pub extern "C" fn film_fragment_sums(queue: &[u64; 132], out: &mut [u64; 3]) -> u32
+pub fn film_fragment_sums(queue: &[u64; 132], out: &mut [u64; 3]) -> u32
     ensures { Returns (given queue.now) sum_numbers out.old out.new result }
 {
     let sums = use_fragment_queue::fragment_sums(queue);

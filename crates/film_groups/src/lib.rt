@@ -46,8 +46,7 @@ fn put_group(group: SampleGroup, out: &mut [u64; 4]) -> u32
 }
 
 // out: the kind of a sample, counted from 0, its index, and in kind 2 the place and the length of the entry's bytes in the stbl's body, else 0.
-#[unsafe(no_mangle)]
-pub extern "C" fn film_sample_group(
+pub fn film_sample_group(
     body: &[u8],
     grouping_type: u32,
     sample: SampleCount,
@@ -62,8 +61,7 @@ pub extern "C" fn film_sample_group(
 }
 
 // The same for the stbl of a track of a film, counted from 0. The place is counted in the film's bytes.
-#[unsafe(no_mangle)]
-pub extern "C" fn film_file_sample_group(
+pub fn film_file_sample_group(
     s: &[u8],
     track: u32,
     grouping_type: u32,
@@ -92,21 +90,14 @@ fn put_needs(needs: Needs, out: &mut [u64; 2]) -> u32
 
 // out: the bytes and the records for rows that the cue listing of an stbl's body needs, in the order in which film_cue_listing reports them. 2^63 + 1 bytes
 // stand for a listing that no output can hold.
-#[unsafe(no_mangle)]
-pub extern "C" fn film_listing_needs(body: &[u8], grouping_type: u32, out: &mut [u64; 2]) -> u32
+pub fn film_listing_needs(body: &[u8], grouping_type: u32, out: &mut [u64; 2]) -> u32
     ensures { Returns (needs_of_listing body.now grouping_type) needs_numbers out.old out.new result }
 {
     put_needs(listing_needs::listing_needs(body, grouping_type), out)
 }
 
 // The same for the stbl of a track of a film, counted from 0.
-#[unsafe(no_mangle)]
-pub extern "C" fn film_file_listing_needs(
-    s: &[u8],
-    track: u32,
-    grouping_type: u32,
-    out: &mut [u64; 2],
-) -> u32
+pub fn film_file_listing_needs(s: &[u8], track: u32, grouping_type: u32, out: &mut [u64; 2]) -> u32
     ensures { Returns (file_listing_needs s.now track grouping_type) needs_numbers out.old out.new result }
 {
     put_needs(

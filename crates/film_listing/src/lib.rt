@@ -13,8 +13,7 @@ use base_ids::RowNumber;
 use listing_cue::CueListing;
 
 // out: place and length of the body of the stbl of a track, counted from 0.
-#[unsafe(no_mangle)]
-pub extern "C" fn film_find_stbl(s: &[u8], track: u32, out: &mut [u64; 2]) -> u32
+pub fn film_find_stbl(s: &[u8], track: u32, out: &mut [u64; 2]) -> u32
     ensures { Returns (stbl_at s.now track) body_numbers out.old out.new result }
 {
     match atom_path::find_stbl(s, track) {
@@ -42,8 +41,7 @@ fn put_lengths(listed: CueListing, out: &mut [u64; 2]) -> u32
 }
 
 // out: the listing's length, the row count. The rows stand in front of the lent run, the listing in front of the output.
-#[unsafe(no_mangle)]
-pub extern "C" fn film_cue_listing(
+pub fn film_cue_listing(
     body: &[u8],
     grouping_type: u32,
     rows: &mut [RowNumber],
@@ -57,8 +55,7 @@ pub extern "C" fn film_cue_listing(
 }
 
 // The same for the stbl of a track of a film, counted from 0.
-#[unsafe(no_mangle)]
-pub extern "C" fn film_file_cue_listing(
+pub fn film_file_cue_listing(
     s: &[u8],
     track: u32,
     grouping_type: u32,

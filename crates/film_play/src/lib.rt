@@ -57,8 +57,7 @@ fn put_turn(t: Turn, head: &mut [u64; 4], out: &mut [u64; 1]) -> u32
 }
 
 // The head set to a sample, or to the end where that comes before. out: the index of its sample.
-#[unsafe(no_mangle)]
-pub extern "C" fn film_play_set(
+pub fn film_play_set(
     head: &mut [u64; 4],
     rows: &[RowNumber],
     sample: SampleCount,
@@ -72,8 +71,7 @@ pub extern "C" fn film_play_set(
 }
 
 // The head moved on by one sample. out: the index of its sample.
-#[unsafe(no_mangle)]
-pub extern "C" fn film_play_move(head: &mut [u64; 4], rows: &[RowNumber], out: &mut [u64; 1]) -> u32
+pub fn film_play_move(head: &mut [u64; 4], rows: &[RowNumber], out: &mut [u64; 1]) -> u32
     ensures { GivesPlayMove rows.now head.old head.new out.old out.new result }
 {
     let before = head_in(head);

@@ -23,8 +23,7 @@ fn put_rows(told: Repainted, out: &mut [u64; 1]) -> u32
 }
 
 // What the edit would return, and out: how many rows it would leave. Nothing else is written.
-#[unsafe(no_mangle)]
-pub extern "C" fn film_preview_repaint(
+pub fn film_preview_repaint(
     rows: &[RowNumber],
     stated: u64,
     a: u64,
@@ -41,8 +40,7 @@ pub extern "C" fn film_preview_repaint(
 }
 
 // The samples from a up to but not b get the index; the new rows stand in front of the run. out: how many they are.
-#[unsafe(no_mangle)]
-pub extern "C" fn film_repaint(
+pub fn film_repaint(
     rows: &mut [RowNumber],
     stated: u64,
     a: u64,

@@ -25,16 +25,14 @@ fn put_start(start: DecodeStart, out: &mut [u64; 1]) -> u32
 }
 
 // out: the sample where decoding begins, by the roll group.
-#[unsafe(no_mangle)]
-pub extern "C" fn film_roll_start(body: &[u8], frame: SampleCount, out: &mut [u64; 1]) -> u32
+pub fn film_roll_start(body: &[u8], frame: SampleCount, out: &mut [u64; 1]) -> u32
     ensures { ReturnsStart body.now fourcc_of.roll frame out.old out.new result }
 {
     put_start(use_decode_start::roll_start(body, SampleNumber(frame)), out)
 }
 
 // The same by the random access points.
-#[unsafe(no_mangle)]
-pub extern "C" fn film_rap_start(body: &[u8], frame: SampleCount, out: &mut [u64; 1]) -> u32
+pub fn film_rap_start(body: &[u8], frame: SampleCount, out: &mut [u64; 1]) -> u32
     ensures { ReturnsStart body.now fourcc_of.rap frame out.old out.new result }
 {
     put_start(use_decode_start::rap_start(body, SampleNumber(frame)), out)

@@ -10,8 +10,7 @@ use film_status::NONE;
 use table_sync::{LastSync, ReadDependency, SyncSample};
 
 // out: 1 where the sample, counted from 0, is a sync sample of the stss, else 0.
-#[unsafe(no_mangle)]
-pub extern "C" fn film_is_sync_sample(s: &[u8], sample: SampleCount, out: &mut [u64; 1]) -> u32
+pub fn film_is_sync_sample(s: &[u8], sample: SampleCount, out: &mut [u64; 1]) -> u32
     ensures { Returns (is_sync s.now sample) sync_numbers out.old out.new result }
 {
     match table_sync::is_sync_sample(s, SampleNumber(sample)) {
@@ -28,8 +27,7 @@ pub extern "C" fn film_is_sync_sample(s: &[u8], sample: SampleCount, out: &mut [
 }
 
 // out: the last sync sample, counted from 0, at or before a frame.
-#[unsafe(no_mangle)]
-pub extern "C" fn film_last_sync_sample(s: &[u8], frame: SampleCount, out: &mut [u64; 1]) -> u32
+pub fn film_last_sync_sample(s: &[u8], frame: SampleCount, out: &mut [u64; 1]) -> u32
     ensures { Returns (last_sync s.now frame) sample_numbers out.old out.new result }
 {
     match table_sync::last_sync_sample(s, SampleNumber(frame)) {
@@ -43,8 +41,7 @@ pub extern "C" fn film_last_sync_sample(s: &[u8], frame: SampleCount, out: &mut 
 }
 
 // out: is leading, depends on, is depended on, has redundancy.
-#[unsafe(no_mangle)]
-pub extern "C" fn film_sample_dependency(s: &[u8], sample: SampleCount, out: &mut [u64; 4]) -> u32
+pub fn film_sample_dependency(s: &[u8], sample: SampleCount, out: &mut [u64; 4]) -> u32
     ensures { Returns (dependency_at s.now sample) dependency_numbers out.old out.new result }
 {
     match table_sync::sample_dependency(s, SampleNumber(sample)) {

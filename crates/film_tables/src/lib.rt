@@ -29,16 +29,14 @@ fn put_head(parsed: ParsedTable, out: &mut [u64; 3]) -> u32
 }
 
 // out: type, parameter, row count. The rows stand in front of the lent run.
-#[unsafe(no_mangle)]
-pub extern "C" fn film_parse_sbgp(s: &[u8], rows: &mut [RowNumber], out: &mut [u64; 3]) -> u32
+pub fn film_parse_sbgp(s: &[u8], rows: &mut [RowNumber], out: &mut [u64; 3]) -> u32
     ensures { Fills (parse_sbgp s.now (records_in rows.old)) rows.old rows.new out.old out.new result }
 {
     put_head(table_sbgp::parse_sbgp(s, rows), out)
 }
 
 // The same for a csgp payload.
-#[unsafe(no_mangle)]
-pub extern "C" fn film_parse_csgp(s: &[u8], rows: &mut [RowNumber], out: &mut [u64; 3]) -> u32
+pub fn film_parse_csgp(s: &[u8], rows: &mut [RowNumber], out: &mut [u64; 3]) -> u32
     ensures { Fills (parse_csgp s.now (records_in rows.old)) rows.old rows.new out.old out.new result }
 {
     put_head(table_csgp::parse_csgp(s, rows), out)
@@ -58,24 +56,21 @@ fn put_needed(needed: RowsNeeded, out: &mut [u64; 1]) -> u32
 }
 
 // out: the number of rows that an sbgp payload needs.
-#[unsafe(no_mangle)]
-pub extern "C" fn film_sbgp_rows_needed(s: &[u8], out: &mut [u64; 1]) -> u32
+pub fn film_sbgp_rows_needed(s: &[u8], out: &mut [u64; 1]) -> u32
     ensures { Returns (rows_needed parse_sbgp s.now) one_number out.old out.new result }
 {
     put_needed(table_needed::sbgp_rows_needed(s), out)
 }
 
 // The same for a csgp payload.
-#[unsafe(no_mangle)]
-pub extern "C" fn film_csgp_rows_needed(s: &[u8], out: &mut [u64; 1]) -> u32
+pub fn film_csgp_rows_needed(s: &[u8], out: &mut [u64; 1]) -> u32
     ensures { Returns (rows_needed parse_csgp s.now) one_number out.old out.new result }
 {
     put_needed(table_needed::csgp_rows_needed(s), out)
 }
 
 // out: the index of the row that covers the sample (counted from 0), 0 past the end.
-#[unsafe(no_mangle)]
-pub extern "C" fn film_group_index_for_sample(
+pub fn film_group_index_for_sample(
     rows: &[RowNumber],
     sample: SampleCount,
     out: &mut [u64; 1],
@@ -93,8 +88,7 @@ pub extern "C" fn film_group_index_for_sample(
 }
 
 // out: the samples that the rows cover.
-#[unsafe(no_mangle)]
-pub extern "C" fn film_covered_samples(rows: &[RowNumber], out: &mut [u64; 1]) -> u32
+pub fn film_covered_samples(rows: &[RowNumber], out: &mut [u64; 1]) -> u32
     ensures { Returns (total rows.now) one_number out.old out.new result }
 {
     let covered = table_rows::covered_samples(rows);

@@ -37,24 +37,21 @@ fn put_written(written: WrittenTable, out: &mut [u64; 1]) -> u32
 }
 
 // out: the exact length of the sbgp that holds the rows.
-#[unsafe(no_mangle)]
-pub extern "C" fn film_quote_sbgp(rows: &[RowNumber], out: &mut [u64; 1]) -> u32
+pub fn film_quote_sbgp(rows: &[RowNumber], out: &mut [u64; 1]) -> u32
     ensures { Returns (quote_sbgp rows.now) one_number out.old out.new result }
 {
     put_length(table_writers::quote_sbgp(rows), out)
 }
 
 // The same for the csgp that gives the same samples.
-#[unsafe(no_mangle)]
-pub extern "C" fn film_quote_csgp(rows: &[RowNumber], out: &mut [u64; 1]) -> u32
+pub fn film_quote_csgp(rows: &[RowNumber], out: &mut [u64; 1]) -> u32
     ensures { Returns (quote_csgp rows.now) one_number out.old out.new result }
 {
     put_length(table_writers::quote_csgp(rows), out)
 }
 
 // Writes the sbgp in front of `body`. out: its length, the quoted one.
-#[unsafe(no_mangle)]
-pub extern "C" fn film_write_sbgp(
+pub fn film_write_sbgp(
     grouping_type: u32,
     rows: &[RowNumber],
     quoted: usize,
@@ -70,8 +67,7 @@ pub extern "C" fn film_write_sbgp(
 }
 
 // The same for the csgp.
-#[unsafe(no_mangle)]
-pub extern "C" fn film_write_csgp(
+pub fn film_write_csgp(
     grouping_type: u32,
     rows: &[RowNumber],
     quoted: usize,

@@ -1,0 +1,4 @@
+// The functions that C calls, by the names of include/film_index.h: each calls the function of that name in its film_ library, and says what that one says.
+#![tactic(auto)]
+
+mod atoms;
