@@ -26,11 +26,13 @@ module _ (film fragment : List ℕ) (i : ℕ) where
   later : (a : Answer Span) → Unrefused a → film_first a (parse_sgpd fragment) ≡ and_then (sgpd fragment) (λ own. and_then a (λ e. given (record { local = false; span = e })))
   later (given e) u = and_then_assoc (sgpd fragment) _ _
   later none u = and_then_assoc (sgpd fragment) _ _
+  later (refused _) u = elim u [ ]
 
   first : (x : Answer (List Span)) → Settled x →
       film_first (and_then x (λ es. pick es i)) (parse_sgpd fragment) ≡ and_then x (λ wide. and_then (sgpd fragment) (λ own. part_in false wide i))
   first (given es) h = later (pick es i) (pick-unrefused es i)
   first (refused n) h = refl
+  first none h = elim h [ ]
 
   pub film-first : {a : Answer Span} {b : Answer Description} → a ≡ entry_at film i → b ≡ parse_sgpd fragment →
       film_first a b ≡ and_then (sgpd film) (λ wide. and_then (sgpd fragment) (λ own. part_in false wide i))
