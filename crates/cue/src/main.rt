@@ -2,38 +2,42 @@
 // standard output, or why there is none.
 #![tactic(auto)]
 
-use cue_print::{print_listing, print_refused};
-use libc::{STDIN_FILENO, STDOUT_FILENO};
+use cue_print::{print_listing, print_refused, read_full};
 use listing_cue::CueListing;
+use std::io;
 
 // Four type bytes, and as much of a body as is held.
 const HELD: usize = 16388;
 
 // The listing of a body, by what is lent for its rows and its bytes.
-fn print_cue(body: &[u8], grouping_type: u32, rows: &mut [u32], listing: &mut [u8]) {
+fn print_cue(
+    rt: &impl Print,
+    body: &[u8],
+    grouping_type: u32,
+    rows: &mut [u32],
+    listing: &mut [u8],
+) -> io::Result<()> {
     match listing_cue::cue_listing(body, grouping_type, rows, listing) {
         CueListing::Listing(lengths) => {
             let end = lengths.listing;
-            print_listing(&listing[..end]);
+            print_listing(rt, &listing[..end])
         }
-        CueListing::Refused(code) => print_refused(code),
+        CueListing::Refused(code) => print_refused(rt, code),
     }
 }
 
-fn main() {
+fn main(rt: HostRuntime) -> io::Result<()> {
     // One byte more than is held tells that there is more.
     let mut input = [0u8; 16389];
-    let n = io::read_full(STDIN_FILENO, &mut input);
+    let n = read_full(&mut rt.stdin(), &mut input);
     if n < 4 {
-        io::write_all(STDOUT_FILENO, b"no type\n");
-        return;
+        return println!(rt; "no type");
     }
     if HELD < n {
-        io::write_all(STDOUT_FILENO, b"too long\n");
-        return;
+        return println!(rt; "too long");
     }
     let grouping_type = base_fields::read_u32(&input, 0);
     let mut rows = [0u32; 4096];
     let mut listing = [0u8; 16384];
-    print_cue(&input[4..n], grouping_type, &mut rows, &mut listing);
+    print_cue(&rt, &input[4..n], grouping_type, &mut rows, &mut listing)
 }

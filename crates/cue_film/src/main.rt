@@ -5,108 +5,131 @@
 mod arguments;
 mod top;
 
-ghost use Rattle.std.specs.Prelude.{◌≡◌, length};
+ghost use Rattle.std.specs.Prelude.{◌≡◌, ◌≤◌, length};
 
 use arguments::{ReadTrack, is_words, read_track};
-use cue_print::{print_listing, print_refused};
+use cue_print::{print_listing, print_refused, read_full};
 use cue_words::words::print_words;
-use libc::{SEEK_SET, STDOUT_FILENO};
 use listing_cue::CueListing;
+use std::env::{Env, FillError};
+use std::fs::File;
+use std::io;
+use std::io::{Read, Seek, SeekFrom};
+use std::rt::Files;
 use top::{Moov, find_moov};
 
-fn print_told(listing: &[u8], in_words: bool) {
+fn print_told(rt: &impl Print, listing: &[u8], in_words: bool) -> io::Result<()> {
     if in_words {
-        print_words(listing);
+        print_words(rt, listing)
     } else {
-        print_listing(listing);
+        print_listing(rt, listing)
     }
 }
 
 // The listing of a track, by what is lent for its rows and its bytes.
 fn print_cue(
+    rt: &impl Print,
     film: &[u8],
     track: u32,
     grouping_type: u32,
     in_words: bool,
     rows: &mut [u32],
     listing: &mut [u8],
-) {
+) -> io::Result<()> {
     match listing_file::file_cue_listing(film, track, grouping_type, rows, listing) {
         CueListing::Listing(lengths) => {
             let end = lengths.listing;
-            print_told(&listing[..end], in_words);
+            print_told(rt, &listing[..end], in_words)
         }
-        CueListing::Refused(code) => print_refused(code),
+        CueListing::Refused(code) => print_refused(rt, code),
     }
 }
 
-fn print_no_film() {
-    io::write_all(STDOUT_FILENO, b"no film\n");
+fn print_no_film(rt: &impl Print) -> io::Result<()> {
+    println!(rt; "no film")
 }
 
-fn print_too_long() {
-    io::write_all(STDOUT_FILENO, b"too long\n");
+fn print_too_long(rt: &impl Print) -> io::Result<()> {
+    println!(rt; "too long")
 }
 
 // The listing of a track of the film in `film`, by what is lent here for its rows and its bytes.
-fn print_track(film: &[u8], track: u32, grouping_type: u32, in_words: bool) {
+fn print_track(
+    rt: &impl Print,
+    film: &[u8],
+    track: u32,
+    grouping_type: u32,
+    in_words: bool,
+) -> io::Result<()> {
     let mut rows = [0u32; 4096];
     let mut listing = [0u8; 16384];
     print_cue(
+        rt,
         film,
         track,
         grouping_type,
         in_words,
         &mut rows,
         &mut listing,
-    );
+    )
 }
 
 // A read that failed fails again; at the end of a file it gives 0.
-fn read_failed(file: i32) -> bool {
+fn read_failed(file: &mut File) -> bool {
     let mut behind = [0u8; 1];
-    libc::read(file, &mut behind) < 0
+    file.read(&mut behind).is_err()
 }
 
 // The listing of a track where the moov begins at a place of the file and has so many bytes, or ends with the film.
 fn print_moov(
-    file: i32,
+    rt: &impl Print,
+    file: &mut File,
     moov: &mut [u8],
     place: u64,
     open: bool,
     track: u32,
     grouping_type: u32,
     in_words: bool,
-) {
+) -> io::Result<()> {
     if 9223372036854775807 < place {
-        return print_no_film();
+        return print_no_film(rt);
     }
-    let offset = place as i64;
-    if libc::lseek(file, offset, SEEK_SET) != offset {
-        return print_no_film();
+    let Ok(reached) = file.seek(SeekFrom::Start(place)) else {
+        return print_no_film(rt);
+    };
+    if reached != place {
+        return print_no_film(rt);
     }
-    let n = io::read_full(file, moov);
+    let n = read_full(file, moov);
     if n < moov.len() {
         if read_failed(file) {
-            return print_no_film();
+            return print_no_film(rt);
         }
     } else if open {
         // One byte more than is held tells that there is more.
-        return print_too_long();
+        return print_too_long(rt);
     }
-    print_track(&moov[..n], track, grouping_type, in_words);
+    print_track(rt, &moov[..n], track, grouping_type, in_words)
 }
 
 // The listing of a track of a film that is longer than its room: the top is read by place, and the moov alone is held.
-fn print_long(file: i32, film: &mut [u8], track: u32, grouping_type: u32, in_words: bool) {
+fn print_long(
+    rt: &impl Print,
+    file: &mut File,
+    film: &mut [u8],
+    track: u32,
+    grouping_type: u32,
+    in_words: bool,
+) -> io::Result<()> {
     let moov = find_moov(file);
     match moov {
         Moov::Sized(place, size) => {
             if film.len() as u64 <= size {
-                return print_too_long();
+                return print_too_long(rt);
             }
             let end = size as usize;
             print_moov(
+                rt,
                 file,
                 &mut film[..end],
                 place,
@@ -116,24 +139,33 @@ fn print_long(file: i32, film: &mut [u8], track: u32, grouping_type: u32, in_wor
                 in_words,
             )
         }
-        Moov::Open(place) => print_moov(file, film, place, true, track, grouping_type, in_words),
-        Moov::Missing => print_refused(60),
-        Moov::Refused(code) => print_refused(code),
-        Moov::Failed => print_no_film(),
+        Moov::Open(place) => {
+            print_moov(rt, file, film, place, true, track, grouping_type, in_words)
+        }
+        Moov::Missing => print_refused(rt, 60),
+        Moov::Refused(code) => print_refused(rt, code),
+        Moov::Failed => print_no_film(rt),
     }
 }
 
 // The listing of a track of the film in an open file.
-fn print_read(file: i32, film: &mut [u8], track: u32, grouping_type: u32, in_words: bool) {
-    let n = io::read_full(file, film);
+fn print_read(
+    rt: &impl Print,
+    file: &mut File,
+    film: &mut [u8],
+    track: u32,
+    grouping_type: u32,
+    in_words: bool,
+) -> io::Result<()> {
+    let n = read_full(file, film);
     // A film that fills its room is longer than what is held.
     if film.len() <= n {
-        return print_long(file, film, track, grouping_type, in_words);
+        return print_long(rt, file, film, track, grouping_type, in_words);
     }
     if read_failed(file) {
-        return print_no_film();
+        return print_no_film(rt);
     }
-    print_track(&film[..n], track, grouping_type, in_words);
+    print_track(rt, &film[..n], track, grouping_type, in_words)
 }
 
 // What is held of a film, and one byte more, which tells that there is more.
@@ -143,56 +175,77 @@ fn film_room() -> [u8; 4194305]
     [0; 4194305]
 }
 
-// The listing of a track of the film in a file.
-fn print_file(name: &[u8], track: u32, grouping_type: u32, in_words: bool) {
-    let file = os::open_read(name);
-    if file < 0 {
-        return print_no_film();
-    }
+// The listing of a track of the film in a file. A name that is not UTF-8 text is none that can be opened.
+fn print_file(
+    rt: &(impl Files<File = File> + Print),
+    name: &[u8],
+    track: u32,
+    grouping_type: u32,
+    in_words: bool,
+) -> io::Result<()> {
+    let Ok(path) = str::from_utf8(name) else {
+        return print_no_film(rt);
+    };
+    let Ok(mut file) = File::open(rt, path) else {
+        return print_no_film(rt);
+    };
     let mut film = film_room();
-    print_read(file, &mut film, track, grouping_type, in_words);
-    libc::close(file);
+    print_read(rt, &mut file, &mut film, track, grouping_type, in_words)
 }
 
-fn print_usage() {
-    io::write_all(STDOUT_FILENO, b"usage: cue_film FILM TRACK TYPE [words]\n");
+fn print_usage(rt: &impl Print) -> io::Result<()> {
+    println!(rt; "usage: cue_film FILM TRACK TYPE [words]")
 }
 
-fn main() {
-    let count = os::arg_count();
-    if count < 4 {
-        print_usage();
-        return;
+// The program was started with an argument of this number; argument 0 is its own name.
+fn has_argument(rt: &impl Env, number: usize) -> bool {
+    match rt.arg(number, &mut []) {
+        Ok(_) => true,
+        Err(FillError::TooLong) => true,
+        Err(FillError::NotPresent) => false,
     }
-    if 5 < count {
-        print_usage();
-        return;
+}
+
+// How many bytes of an argument are in front of its room: 0 where there is none or it is longer.
+fn argument(rt: &impl Env, number: usize, room: &mut [u8]) -> usize
+    ensures { result ≤ length room.new }
+{
+    match rt.arg(number, room) {
+        Ok(n) => n,
+        Err(_) => 0,
+    }
+}
+
+fn main(rt: HostRuntime) -> io::Result<()> {
+    if !has_argument(&rt, 3) {
+        return print_usage(&rt);
+    }
+    if has_argument(&rt, 5) {
+        return print_usage(&rt);
     }
     // An argument that is longer than its room has length 0.
-    let mut name = io::buffer();
-    let name_end = os::arg(1, &mut name);
+    let mut name = [0u8; 4096];
+    let name_end = argument(&rt, 1, &mut name);
     let mut digits = [0u8; 10];
-    let digits_end = os::arg(2, &mut digits);
+    let digits_end = argument(&rt, 2, &mut digits);
     let mut fourcc = [0u8; 4];
-    let fourcc_end = os::arg(3, &mut fourcc);
+    let fourcc_end = argument(&rt, 3, &mut fourcc);
     let mut word = [0u8; 5];
-    let word_end = os::arg(4, &mut word);
+    let word_end = argument(&rt, 4, &mut word);
     let in_words = is_words(&word[..word_end]);
-    if count == 5 {
+    if has_argument(&rt, 4) {
         if !in_words {
-            print_usage();
-            return;
+            return print_usage(&rt);
         }
     }
     if fourcc_end != 4 {
-        print_usage();
-        return;
+        return print_usage(&rt);
     }
     match read_track(&digits[..digits_end]) {
         ReadTrack::Track(track) => {
             let grouping_type = base_fields::read_u32(&fourcc, 0);
-            print_file(&name[..name_end], track, grouping_type, in_words);
+            print_file(&rt, &name[..name_end], track, grouping_type, in_words)
         }
-        ReadTrack::Nothing => print_usage(),
+        ReadTrack::Nothing => print_usage(&rt),
     }
 }

@@ -4,7 +4,8 @@ ghost use Rattle.atom_tree.specs.Told.{header_of};
 ghost use Rattle.cue_film.specs.TopAtoms.{told_top, placed_at, top_at};
 
 use atom_tree::{AtomHeader, ReadHeader, TotalSize, read_atom_header};
-use libc::pread;
+use std::fs::File;
+use std::os::unix::fs::FileExt;
 
 // The type of a moov, four bytes as one number.
 const MOOV: u32 = 0x6d6f_6f76;
@@ -94,16 +95,14 @@ fn behind_open(found: Moov, fourcc: u32, at: u64) -> Moov {
 }
 
 // The top is walked to its end, so that a fault behind the moov is told, as in a film that is held whole.
-pub fn find_moov(file: i32) -> Moov {
+pub fn find_moov(file: &File) -> Moov {
     let mut window = [0u8; 16];
     let mut found = Moov::Missing;
     let mut at: u64 = 0;
     while at <= LAST_PLACE {
-        let got = pread(file, &mut window, at as i64);
-        if got < 0 {
+        let Ok(n) = file.read_at(&mut window, at) else {
             return Moov::Failed;
-        }
-        let n = io::count(got, &window);
+        };
         let atom = top_atom(&window[..n], at);
         match atom {
             TopAtom::Sized(fourcc, size) => {

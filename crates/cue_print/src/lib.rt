@@ -1,24 +1,46 @@
-// Lines on standard output: bytes in hexadecimal, and refusals.
+// What the programs share: lines on standard output, bytes in hexadecimal and refusals, and a read up to what is held.
 #![tactic(auto)]
 
-use libc::STDOUT_FILENO;
+ghost use Rattle.std.specs.Prelude.{◌≤◌, length};
+
+use std::io;
+use std::io::Read;
 
 // Two lower-case digits for each byte.
-pub fn print_bytes(bytes: &[u8]) {
+pub fn print_bytes(rt: &impl Print, bytes: &[u8]) -> io::Result<()> {
     let mut i = 0;
     while i < bytes.len() {
-        io::print_hex(STDOUT_FILENO, bytes[i] as u64, 2);
+        let byte = bytes[i];
+        print!(rt; "{byte:02x}")?;
         i = i + 1;
     }
+    Ok(())
 }
 
-pub fn print_listing(listing: &[u8]) {
-    print_bytes(listing);
-    io::write_all(STDOUT_FILENO, b"\n");
+pub fn print_listing(rt: &impl Print, listing: &[u8]) -> io::Result<()> {
+    print_bytes(rt, listing)?;
+    println!(rt; "")
 }
 
-pub fn print_refused(n: u32) {
-    io::write_all(STDOUT_FILENO, b"refused ");
-    io::print_decimal(STDOUT_FILENO, n as u64);
-    io::write_all(STDOUT_FILENO, b"\n");
+pub fn print_refused(rt: &impl Print, n: u32) -> io::Result<()> {
+    println!(rt; "refused {n}")
+}
+
+// Reads until `held` is full, the input ends or a read fails, and returns how many bytes it put at the start of `held`.
+pub fn read_full(from: &mut impl Read, held: &mut [u8]) -> usize
+    ensures { result ≤ length held.new }
+{
+    let mut done = 0;
+    while done < held.len() {
+        match from.read(&mut held[done..]) {
+            Ok(n) => {
+                if n == 0 {
+                    return done;
+                }
+                done = done + n;
+            }
+            Err(_) => return done,
+        }
+    }
+    done
 }

@@ -1,15 +1,14 @@
 // Runs a queue of fragments: rows that cover too many samples beside a full queue, what a refusal leaves, and which fragment leaves. Prints one line for each check.
 #![tactic(auto)]
 
-use libc::STDOUT_FILENO;
+use std::io;
 use use_fragment_queue::Queued;
 
-fn tell(name: &[u8], same: bool) {
-    io::write_all(STDOUT_FILENO, name);
+fn tell(rt: &impl Print, name: &str, same: bool) -> io::Result<()> {
     if same {
-        io::write_all(STDOUT_FILENO, b": ok\n");
+        println!(rt; "{name}: ok")
     } else {
-        io::write_all(STDOUT_FILENO, b": differs\n");
+        println!(rt; "{name}: differs")
     }
 }
 
@@ -20,15 +19,20 @@ fn refused_with(told: Queued, n: u32) -> bool {
     }
 }
 
-fn main() {
+fn main(rt: HostRuntime) -> io::Result<()> {
+    let rt = &rt;
     // 4,294,967,296 samples
     let over: [u32; 4] = [4294967295, 1, 1, 0];
     let mut full = [0u64; 132];
     full[1] = 64;
     full[4] = 5;
     let told = use_fragment_queue::fragment_arrive(&mut full, &over);
-    tell(b"28 of a fragment in a full queue", refused_with(told, 28));
-    tell(b"a queue after 28", full[1] == 64 && full[4] == 5);
+    tell(
+        rt,
+        "28 of a fragment in a full queue",
+        refused_with(told, 28),
+    )?;
+    tell(rt, "a queue after 28", full[1] == 64 && full[4] == 5)?;
     // fragments of 5 and of 9 samples
     let mut two = [0u64; 132];
     two[1] = 2;
@@ -41,7 +45,8 @@ fn main() {
     use_fragment_queue::fragment_depart(&mut two);
     let left = use_fragment_queue::fragment_sums(&two);
     tell(
-        b"the oldest fragment leaves",
+        rt,
+        "the oldest fragment leaves",
         left.fragments == 1 && left.covered == 9 && left.members == 2,
-    );
+    )
 }

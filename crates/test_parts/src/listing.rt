@@ -1,6 +1,7 @@
 // What a cue listing writes, and what it leaves as it was: the order of its refusals.
 use super::tell;
 use listing_cue::CueListing;
+use std::io;
 
 // The refusal of a cue listing of type roll; 0 where there is none.
 fn cue_refusal(body: &[u8], rows: &mut [u32], out: &mut [u8]) -> u32 {
@@ -10,43 +11,45 @@ fn cue_refusal(body: &[u8], rows: &mut [u32], out: &mut [u8]) -> u32 {
     }
 }
 
-fn accepted(body: &[u8]) {
+fn accepted(rt: &impl Print, body: &[u8]) -> io::Result<()> {
     let mut rows = [7u32; 5];
     let mut out = [7u8; 13];
-    tell(b"listed", cue_refusal(body, &mut rows, &mut out) == 0);
-    tell(b"the byte behind the listing", out[12] == 7);
-    tell(b"the number behind the rows", rows[4] == 7);
+    tell(rt, "listed", cue_refusal(body, &mut rows, &mut out) == 0)?;
+    tell(rt, "the byte behind the listing", out[12] == 7)?;
+    tell(rt, "the number behind the rows", rows[4] == 7)
 }
 
-fn no_room(body: &[u8]) {
+fn no_room(rt: &impl Print, body: &[u8]) -> io::Result<()> {
     let mut rows = [7u32; 4];
     let mut out = [7u8; 11];
-    tell(b"no room", cue_refusal(body, &mut rows, &mut out) == 54);
-    tell(b"its rows", rows[0] == 7);
-    tell(b"its bytes", out[0] == 7);
+    tell(rt, "no room", cue_refusal(body, &mut rows, &mut out) == 54)?;
+    tell(rt, "its rows", rows[0] == 7)?;
+    tell(rt, "its bytes", out[0] == 7)
 }
 
 // With no room for a listing another refusal comes first.
-fn comes_first(name: &[u8], body: &[u8], refusal: u32) {
+fn comes_first(rt: &impl Print, name: &str, body: &[u8], refusal: u32) -> io::Result<()> {
     let mut rows = [7u32; 4];
     let mut out = [7u8; 3];
-    tell(name, cue_refusal(body, &mut rows, &mut out) == refusal);
+    tell(rt, name, cue_refusal(body, &mut rows, &mut out) == refusal)
 }
 
-pub fn run() {
+pub fn run(rt: &impl Print) -> io::Result<()> {
     // document 01's starred listing has 12 bytes
     let starred =
         b"\x00\x00\x00\x24sbgp\x00\x00\x00\x00roll\x00\x00\x00\x02\x00\x00\x00\x02\x00\x00\x00\x01\x00\x00\x00\x01\x00\x00\x00\x00\x00\x00\x00\x1asgpd\x01\x00\x00\x00roll\x00\x00\x00\x02\x00\x00\x00\x01\xff\xfe";
-    accepted(starred);
-    no_room(starred);
+    accepted(rt, starred)?;
+    no_room(rt, starred)?;
     comes_first(
-        b"a decoder's refusal before 54",
+        rt,
+        "a decoder's refusal before 54",
         b"\x00\x00\x00\x24sbgp\x00\x00\x00\x00roll\x00\x00\x00\x02\x00\x00\x00\x02\x00\x00\x00\x01\x00\x00\x00\x01\x00\x00\x00\x00\x00\x00\x00\x19sgpd\x01\x00\x00\x00roll\x00\x00\x00\x01\x00\x00\x00\x01\xff",
         40,
-    );
+    )?;
     comes_first(
-        b"the table's refusal before the sgpd's",
+        rt,
+        "the table's refusal before the sgpd's",
         b"\x00\x00\x00\x1csbgp\x00\x00\x00\x00roll\x00\x00\x00\x02\x00\x00\x00\x02\x00\x00\x00\x01\x00\x00\x00\x19sgpd\x01\x00\x00\x00roll\x00\x00\x00\x02\x00\x00\x00\x01\xff",
         23,
-    );
+    )
 }

@@ -7,16 +7,15 @@ mod structs;
 
 use base_ids::DescriptionIndex;
 use group_fragments::FoundPart;
-use libc::STDOUT_FILENO;
+use std::io;
 use table_front::TableKind;
 use table_runs::{NextRun, ReadTable, first_run, next_run, read_table};
 
-fn tell(name: &[u8], same: bool) {
-    io::write_all(STDOUT_FILENO, name);
+fn tell(rt: &impl Print, name: &str, same: bool) -> io::Result<()> {
     if same {
-        io::write_all(STDOUT_FILENO, b": ok\n");
+        println!(rt; "{name}: ok")
     } else {
-        io::write_all(STDOUT_FILENO, b": differs\n");
+        println!(rt; "{name}: differs")
     }
 }
 
@@ -48,41 +47,53 @@ fn refusal(film: &[u8], fragment: &[u8], raw: u32) -> u32 {
     }
 }
 
-fn runs() {
+fn runs(rt: &impl Print) -> io::Result<()> {
     let sbgp =
         b"\x00\x00\x00\x00rap \x00\x00\x00\x02\x00\x00\x00\x03\x00\x00\x00\x01\x00\x00\x00\x02\x00\x00\x00\x09";
-    tell(b"run of an sbgp", first_run_is(sbgp, TableKind::Sbgp, 3, 1));
+    tell(
+        rt,
+        "run of an sbgp",
+        first_run_is(sbgp, TableKind::Sbgp, 3, 1),
+    )?;
     let csgp = b"\x00\x00\x00\x00rap \x00\x00\x00\x02\x12\x23\x55\x60";
-    tell(b"run of a csgp", first_run_is(csgp, TableKind::Csgp, 2, 5));
+    tell(
+        rt,
+        "run of a csgp",
+        first_run_is(csgp, TableKind::Csgp, 2, 5),
+    )
 }
 
-fn parts(film: &[u8]) {
+fn parts(rt: &impl Print, film: &[u8]) -> io::Result<()> {
     tell(
-        b"entry",
+        rt,
+        "entry",
         is_two(group_sgpd::entry(film, DescriptionIndex(2)), 0x64, 0x65),
-    );
+    )?;
     tell(
-        b"described in the film",
+        rt,
+        "described in the film",
         is_two(group_fragments::described(film, film, 2), 0x64, 0x65),
-    );
+    )?;
     let fragment = b"\x00\x00\x00\x00abcd\x00\x00\x00\x03qrstuvwxy";
     tell(
-        b"described in the fragment",
+        rt,
+        "described in the fragment",
         is_two(
             group_fragments::described(film, fragment, 0x8000_0002),
             0x74,
             0x75,
         ),
-    );
+    )
 }
 
-fn refusals() {
+fn refusals(rt: &impl Print) -> io::Result<()> {
     let short = b"\x00\x00\x00\x00abcd\x00\x00\x00";
     let cut = b"\x02\x00\x00\x00abcd\x00\x00\x00\x00";
     tell(
-        b"the film's refusal first",
+        rt,
+        "the film's refusal first",
         refusal(short, cut, 0x8000_0001) == 30,
-    );
+    )
 }
 
 // Of document 01's starred calls crates/test_starred_calls says every answer. The csgp [1,2,2] over 7 samples ends behind its wrap.
@@ -100,17 +111,19 @@ fn starred() -> bool {
     bytes[7] == 0xfe && bytes[8] == 0xff
 }
 
-fn main() {
+fn main(rt: HostRuntime) -> io::Result<()> {
+    let rt = &rt;
     let film = b"\x00\x00\x00\x00abcd\x00\x00\x00\x03abcdefghi";
-    runs();
-    parts(film);
-    refusals();
+    runs(rt)?;
+    parts(rt, film)?;
+    refusals(rt)?;
     tell(
-        b"no entry",
+        rt,
+        "no entry",
         group_sgpd::entry(film, DescriptionIndex(4)).len() == 0,
-    );
-    structs::run();
-    listing::run();
-    tell(b"starred csgp, the row behind the wrap", wraps());
-    tell(b"starred calls, the listing's distance", starred());
+    )?;
+    structs::run(rt)?;
+    listing::run(rt)?;
+    tell(rt, "starred csgp, the row behind the wrap", wraps())?;
+    tell(rt, "starred calls, the listing's distance", starred())
 }

@@ -1,6 +1,7 @@
 // Tables read into row structs, beside the same tables in flat rows, and the readers and writers of row structs.
 use super::tell;
 use base_ids::SampleNumber;
+use std::io;
 use table_row_structs::{ReadRow, SampleToGroupEntry, SetRow, Written};
 use table_rows::{Covered, Found, ParsedTable};
 use test_struct_runs::TableRead;
@@ -198,70 +199,78 @@ fn writes(pairs: &[u32], k: usize, written: u64, set: u64, after: &[u32; 8]) -> 
     same_numbers(&numbers, after)
 }
 
-fn run_rows() {
+fn run_rows(rt: &impl Print) -> io::Result<()> {
     let numbers = [3u32, 1, 0, 9, 2, 1, 4, 8];
     tell(
-        b"row structs, row 1 and sample 4",
+        rt,
+        "row structs, row 1 and sample 4",
         reads_agree(numbers, 1, 4),
-    );
+    )?;
     tell(
-        b"row structs, row 3 and sample 8",
+        rt,
+        "row structs, row 3 and sample 8",
         reads_agree(numbers, 3, 8),
-    );
-    tell(b"row structs, past the end", reads_agree(numbers, 4, 9));
+    )?;
+    tell(rt, "row structs, past the end", reads_agree(numbers, 4, 9))?;
     let two = [1u32, 2, 3, 4];
     tell(
-        b"row structs, two rows written, the last one set",
+        rt,
+        "row structs, two rows written, the last one set",
         writes(&two, 3, 2, 0, &[1, 2, 3, 4, 7, 7, 5, 6]),
-    );
+    )?;
     let five = [1u32; 10];
     tell(
-        b"row structs, a record too few, no row set",
+        rt,
+        "row structs, a record too few, no row set",
         writes(&five, 4, 1029, 255, &[7; 8]),
-    );
+    )
 }
 
-fn run_sbgp() {
+fn run_sbgp(rt: &impl Print) -> io::Result<()> {
     let rows =
         b"\x00\x00\x00\x00rap \x00\x00\x00\x02\x00\x00\x00\x03\x00\x00\x00\x01\x00\x00\x00\x02\x00\x00\x00\x09";
-    tell(b"sbgp in row structs", sbgp_agrees(rows, 0));
+    tell(rt, "sbgp in row structs", sbgp_agrees(rows, 0))?;
     let cut =
         b"\x00\x00\x00\x00rap \x00\x00\x00\x02\x00\x00\x00\x03\x00\x00\x00\x01\x00\x00\x00\x02\x00\x00\x00";
-    tell(b"sbgp in row structs, rows cut", sbgp_agrees(cut, 23));
+    tell(rt, "sbgp in row structs, rows cut", sbgp_agrees(cut, 23))?;
     let many =
         b"\x01\x00\x00\x00rap \x00\x00\x00\x09\x00\x00\x00\x05\x00\x00\x00\x01\x00\x00\x00\x01\x00\x00\x00\x01\x00\x00\x00\x01\x00\x00\x00\x01\x00\x00\x00\x01\x00\x00\x00\x01\x00\x00\x00\x01\x00\x00\x00\x01\x00\x00\x00\x01";
     tell(
-        b"sbgp in row structs, a record too few",
+        rt,
+        "sbgp in row structs, a record too few",
         sbgp_agrees(many, 29),
-    );
+    )
 }
 
-fn run_csgp() {
+fn run_csgp(rt: &impl Print) -> io::Result<()> {
     let joined = b"\x00\x00\x00\x00rap \x00\x00\x00\x02\x12\x23\x55\x60";
-    tell(b"csgp in row structs", csgp_agrees(joined, 0));
+    tell(rt, "csgp in row structs", csgp_agrees(joined, 0))?;
     let no_index = b"\x00\x00\x00\x00rap \x00\x00\x00\x02\x12\x23";
     tell(
-        b"csgp in row structs, an index cut",
+        rt,
+        "csgp in row structs, an index cut",
         csgp_agrees(no_index, 27),
-    );
+    )
 }
 
-fn run_csgp_over() {
+fn run_csgp_over(rt: &impl Print) -> io::Result<()> {
     let period = b"\x00\x00\x00\x00rap \x00\x00\x00\x01\x37\x12\x20";
     tell(
-        b"csgp in row structs, a record too few",
+        rt,
+        "csgp in row structs, a record too few",
         csgp_agrees(period, 29),
-    );
+    )?;
     let over = b"\x00\x00\x00\x0crap \x00\x00\x00\x02\x1f\xff\xff\xff\xf1\x00\x00\x00\x01\x11";
     tell(
-        b"csgp in row structs, a row too long",
+        rt,
+        "csgp in row structs, a row too long",
         csgp_agrees(over, 28),
-    );
+    )
 }
 
-pub fn run() {
-    run_sbgp();
-    run_csgp();
-    run_csgp_over();
-    run_rows();
+pub fn run(rt: &impl Print) -> io::Result<()> {
+    run_sbgp(rt)?;
+    run_csgp(rt)?;
+    run_csgp_over(rt)?;
+    run_rows(rt)
 }

@@ -3,28 +3,25 @@
 
 ghost use Rattle.std.specs.Prelude.{◌≤◌};
 
-use libc::STDOUT_FILENO;
+use cue_print::read_full;
+use std::fs::File;
+use std::io;
+use std::rt::Files;
 
 // The file's bytes in front of `text`, and how many; 0 where it cannot be read.
-fn read_file(name: &[u8], text: &mut [u8]) -> usize {
-    let file = os::open_read(name);
-    if file < 0 {
-        os::fail(name);
-        return 0;
+fn read_file(rt: &(impl Files + Eprint), name: &str, text: &mut [u8]) -> io::Result<usize> {
+    match File::open(rt, name) {
+        Ok(mut file) => Ok(read_full(&mut file, text)),
+        Err(e) => {
+            eprintln!(rt; "{name}: {e}")?;
+            Ok(0)
+        }
     }
-    let n = io::read_full(file, text);
-    libc::close(file);
-    n
 }
 
 // Prints what was counted of a file.
-fn print_counts(name: &[u8], lines: u64, differ: u64) {
-    io::write_all(STDOUT_FILENO, name);
-    io::write_all(STDOUT_FILENO, b": ");
-    io::print_decimal(STDOUT_FILENO, lines);
-    io::write_all(STDOUT_FILENO, b" vectors, ");
-    io::print_decimal(STDOUT_FILENO, differ);
-    io::write_all(STDOUT_FILENO, b" differ\n");
+fn print_counts(rt: &impl Print, name: &str, lines: u64, differ: u64) -> io::Result<()> {
+    println!(rt; "{name}: {lines} vectors, {differ} differ")
 }
 
 // The library gives the answer that the record has, by the number of its entry.
@@ -70,27 +67,28 @@ fn count_lines(text: &[u8], bytes: &mut [u8]) -> Counts {
 }
 
 // Replays a file and prints its counts.
-fn replay(name: &[u8]) {
-    let mut text = io::large_buffer();
-    let n = read_file(name, &mut text);
-    let mut bytes = io::buffer();
+fn replay(rt: &(impl Files + Print + Eprint), name: &str) -> io::Result<()> {
+    let mut text = [0u8; 65536];
+    let n = read_file(rt, name, &mut text)?;
+    let mut bytes = [0u8; 4096];
     let counts = count_lines(test_vector_lines::front(&text, n), &mut bytes);
-    print_counts(name, counts.lines, counts.differ);
+    print_counts(rt, name, counts.lines, counts.differ)
 }
 
-fn main() {
-    replay(b"atoms");
-    replay(b"films");
-    replay(b"tables");
-    replay(b"document");
-    replay(b"descriptions");
-    replay(b"records");
-    replay(b"listing");
-    replay(b"film_listings");
-    replay(b"starts");
-    replay(b"writing");
-    replay(b"sync");
-    replay(b"damaged");
-    replay(b"damaged_listing");
-    replay(b"damaged_requests");
+fn main(rt: HostRuntime) -> io::Result<()> {
+    let rt = &rt;
+    replay(rt, "atoms")?;
+    replay(rt, "films")?;
+    replay(rt, "tables")?;
+    replay(rt, "document")?;
+    replay(rt, "descriptions")?;
+    replay(rt, "records")?;
+    replay(rt, "listing")?;
+    replay(rt, "film_listings")?;
+    replay(rt, "starts")?;
+    replay(rt, "writing")?;
+    replay(rt, "sync")?;
+    replay(rt, "damaged")?;
+    replay(rt, "damaged_listing")?;
+    replay(rt, "damaged_requests")
 }
