@@ -334,6 +334,7 @@ fn print_stretches(
             ReadNumber::Nothing => return print_cut(rt),
         }
     }
+    Ok(())
 }
 
 // First the type and how many samples are covered.
