@@ -3,7 +3,7 @@ use mathlib.Core.Path.{◌≡◌, refl}
 use Prim.Native.Nat.{ℕ}
 use mathlib.Core.List.{List, [], ◌∷◌}
 use Rattle.base_fields.specs.Answer.{Answer}
-use Rattle.use_fragment_queue.specs.Held.{Fragment, QueueCall, held_after, answers_held, covered_held, members_held, FragmentPlace, fragment_at}
+use Rattle.use_fragment_queue.specs.Held.{Fragment, QueueCall, call_held, kept, held_after, answers_held, covered_held, members_held, FragmentPlace, fragment_at}
 use Rattle.use_fragment_queue.specs.Ring.{first_slot, held_count, covered_sum_of, member_sum, QueueEmpty, ring, QueueMade}
 use Rattle.use_fragment_queue.specs.Queued.{GivesPlace, QueueCalls, ended, called}
 use Rattle.use_fragment_queue.proofs.Queue.{empty-made}
@@ -12,13 +12,13 @@ pub run-made : {held : List Fragment} {q last : List ℕ} {cs : List QueueCall} 
     → QueueMade (held_after held cs) last
 unfolding held_after
 run-made m ended = m
-run-made {held} m (called g run) = run-made (g.due held m).made run
+run-made {held = held} m (called {q = q} {after = after} {last = last} {c = c} {told = told} {cs = cs} {later = later} g run) = run-made {held = kept (call_held held c) held} (g.due held m).made run
 
 pub run-told : {held : List Fragment} {q last : List ℕ} {cs : List QueueCall} {told : List (Answer Unit)} → QueueMade held q → QueueCalls q cs told last
     → told ≡ answers_held held cs
 unfolding answers_held
 run-told m ended = refl
-run-told {held} m (called g run) = λ t. (g.due held m).answer t ∷ run-told (g.due held m).made run t
+run-told {held = held} m (called {q = q} {after = after} {last = last} {c = c} {told = told} {cs = cs} {later = later} g run) = λ t. (g.due held m).answer t ∷ run-told {held = kept (call_held held c) held} (g.due held m).made run t
 
 -- from an empty queue: the answers due, the slots in ring order those held, and the sums a recount
 module _ {q last : List ℕ} (empty : QueueEmpty q) {cs : List QueueCall} {told : List (Answer Unit)} (run : QueueCalls q cs told last) where
