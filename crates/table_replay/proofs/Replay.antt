@@ -143,6 +143,7 @@ onward is one (given out) t =
       rooms = λ l. t.rooms (one.rooms l);
     }
 onward is one (refused n) t = t
+onward {room = room} {rows = rows} {next = next} {i = i} is one none t = elim t [ ]
 
 replay-told : (room : ℕ) (rows : List Row) (is : List ℕ) → Told room rows is (replay room rows is)
 unfolding replay
@@ -152,6 +153,7 @@ replay-told room rows (i ∷ is) = step (λ next. replay-told room next is) (ent
     step : ((next : List Row) → Told room next is (replay room next is)) → (a : Answer (List Row)) → Told room rows (i ∷ []) a → Told room rows (i ∷ is) (and_then a (λ next. replay room next is))
     step rest (given next) t = onward is t (replay room next is) (rest next)
     step rest (refused n) t = t
+    step rest none t = elim t [ ]
 
 module _ (room : ℕ) (rows : List Row) (is : List ℕ) where
   entered : {out : List Row} → replay room rows is ≡ given out → Entered room rows is out

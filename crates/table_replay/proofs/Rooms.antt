@@ -102,3 +102,4 @@ module _ (room : ℕ) where
       by : (a : Answer (List Row)) → Roomy rows a → ((next : List Row) → length next ≤ suc (length rows) → Firm (replay room next is)) → Firm (and_then a (λ next. replay room next is))
       by (given next) r f = f next r
       by (refused n) r f = r
+      by none r f = elim r [ ]

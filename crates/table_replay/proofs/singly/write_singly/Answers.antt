@@ -1,0 +1,102 @@
+use mathlib.Core.Path.{◌≡◌, refl, sym, ap, subst, ◌∙◌}
+use Prim.Native.Nat.{ℕ, ◌+◌, ◌-◌, ◌*◌, ◌%◌, ◌≤◌, ◌<◌}
+use native.Mathlib.Nat.{mod-lt, lt_trans}
+use native.Mathlib.Omega.{arith}
+use lib.ListN.{length}
+use Rattle.table_rows.specs.Row.{records_in}
+use Rattle.table_patterns.proofs.Runs.{field_end}
+use Rattle.table_replay.specs.Enter.{GivesSingle}
+use Rattle.table_replay.specs.declared.singly.Single.{Single}
+use Rattle.table_replay.specs.declared.singly.Single.TheVariants as single
+use Rattle.table_replay.proofs.OneByOne.{next-onward, next-below, next-less, next_place, turn-index, written_none, written_on}
+use Rattle.table_replay.proofs.singly.write_singly.Goals as goal
+use Rattle.table_replay.proofs.singly.write_singly.Goals.{After-last_of_period-last, At-loop-sample, In-Next}
+
+-- the field of a turn ends within the payload
+turn_end : (c : After-last_of_period-last) (i : ℕ) → (let p = c.args.pattern in i < p.length → p.indices + p.width * i + p.width ≤ p.indices + p.width * p.length)
+turn_end c i h = let p = c.args.pattern in field_end p.width p.indices i p.length h
+
+-- a sample before the last has its turn
+turn_below : (c : At-loop-sample) → c.loop-sample.sample < c.last_of_period-last.result → (let a = c.args in let p = a.pattern in let k = a.state.sample in k % p.length + (c.loop-sample.sample - k) < p.length)
+turn_below c h = let l = c.last_of_period-last.ensures in let i = c.loop-sample.invariant in omega (arith, l.period, l.onward, i.0)
+
+abbrev Told : In-Next → Single → Type 0
+Told c r = GivesSingle (records_in c.args.rows.now) c.loop-sample.tail c.read_index-index.result r
+
+next-tail : (c : In-Next) → Told c (single.Next c.in-Next.next)
+next-tail c = subst (λ (r : Single). Told c r) c.in-Next.is c.enter_single.ensures
+
+pub returns-then-pattern-state : goal.returns-then-pattern-state
+returns-then-pattern-state c = written_none _ _ _ _
+
+pub returns-then-turn-eq0 : goal.returns-then-turn-eq0
+returns-then-turn-eq0 c = written_none _ _ _ _
+
+pub last_of_period-last-requires : goal.last_of_period-last-requires
+last_of_period-last-requires c =
+    (omega arith, mod-lt c.args.state.sample c.requires.0.some)
+
+pub overflow_mul-at : goal.overflow_mul-at
+overflow_mul-at c = let h = c.requires.0 in omega (arith, turn_end (goal.at.overflow_mul-at c).After-last_of_period-last (c.args.state.sample % c.args.pattern.length) (mod-lt c.args.state.sample h.some), h.inside, h.short)
+
+pub overflow_add-at : goal.overflow_add-at
+overflow_add-at c = let h = c.requires.0 in omega (arith, turn_end (goal.at.overflow_add-at c).After-last_of_period-last (c.args.state.sample % c.args.pattern.length) (mod-lt c.args.state.sample h.some), h.inside, h.short)
+
+pub loop-sample-init : goal.loop-sample-init
+loop-sample-init c =
+    let a = c.args in
+    let turn = a.state.sample % a.pattern.length in
+    let z : turn ≡ turn + (a.state.sample - a.state.sample) = omega arith in
+    (omega arith, c.last_of_period-last.ensures.onward, ap (λ (n : ℕ). a.pattern.indices + a.pattern.width * n) z, c.requires.1, refl, written_none _ _ _ _)
+
+pub read_index-index-requires : goal.read_index-index-requires
+read_index-index-requires c =
+    let h = c.requires.0 in
+    let e = c.loop-sample.invariant.2 in
+    (h, omega (arith, e), omega (arith, e, h.inside, turn_end (goal.at.read_index-index-requires c).After-last_of_period-last _ (turn_below (goal.at.read_index-index-requires c).At-loop-sample c.loop-sample-test.true)))
+
+pub shape_of-rows-in-Stop : goal.shape_of-rows-in-Stop
+shape_of-rows-in-Stop c = c.loop-sample.invariant.4
+
+pub returns-in-Stop : goal.returns-in-Stop
+returns-in-Stop c = c.loop-sample.invariant.5
+
+pub overflow_sub-tail : goal.overflow_sub-tail
+overflow_sub-tail c = (next-tail (goal.at.overflow_sub-tail c).In-Next).some
+
+pub put_row-requires : goal.put_row-requires
+put_row-requires c =
+    let i = c.loop-sample.invariant in
+    let e = next-tail (goal.at.put_row-requires c).In-Next in
+    let r = e.roomy i.3 in
+    omega (arith, e.some, i.4)
+
+pub overflow_add-at-in-loop-sample : goal.overflow_add-at-in-loop-sample
+overflow_add-at-in-loop-sample c =
+    let h = c.requires.0 in
+    omega (arith, c.loop-sample.invariant.2, h.inside, h.short, turn_end (goal.at.overflow_add-at-in-loop-sample c).After-last_of_period-last _ (turn_below (goal.at.overflow_add-at-in-loop-sample c).At-loop-sample c.loop-sample-test.true))
+
+pub loop-sample-smaller : goal.loop-sample-smaller
+loop-sample-smaller c = next-less _ _ c.loop-sample-test.true
+
+pub loop-sample-preserved : goal.loop-sample-preserved
+loop-sample-preserved c =
+    let l = c.last_of_period-last.ensures in
+    let i = c.loop-sample.invariant in
+    let a = c.args in
+    let k = c.loop-sample.sample in
+    let entered = next-tail (goal.at.loop-sample-preserved c).In-Next in
+    let index = turn-index a.s.now a.pattern a.state.sample k _ c.requires.0.some i.0 (turn_below (goal.at.loop-sample-preserved c).At-loop-sample c.loop-sample-test.true) i.2 ∙ sym c.read_index-index.ensures.0 in (
+      next-onward _ _ i.0,
+      next-below _ _ c.loop-sample-test.true,
+      next_place a.pattern a.state.sample k _ i.0 i.2,
+      entered.roomy i.3,
+      c.put_row.auto.rows ∙ i.4,
+      written_on _ _ _ _ _ (lt_trans c.loop-sample-test.true l.within) index entered.enters i.5 c.put_row.ensures,
+    )
+
+pub shape_of-rows : goal.shape_of-rows
+shape_of-rows c = c.loop-sample.invariant.4
+
+pub returns : goal.returns
+returns c = c.loop-sample.invariant.5
