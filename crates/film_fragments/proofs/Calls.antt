@@ -4,7 +4,7 @@ use mathlib.Core.Path.{◌≡◌, refl, ap, subst, ◌∙◌}
 use mathlib.Core.List.{List, [], ◌∷◌, map}
 use lib.ListN.{length}
 use Rattle.base_fields.specs.Answer.{Answer}
-use Rattle.use_fragment_queue.specs.Held.{Fragment, QueueCall, held_after, answers_held, covered_held, members_held, fragment_at}
+use Rattle.use_fragment_queue.specs.Held.{Fragment, QueueCall, call_held, kept, held_after, answers_held, covered_held, members_held, fragment_at}
 use Rattle.use_fragment_queue.specs.Ring.{QueueEmpty, QueueMade}
 use Rattle.use_fragment_queue.proofs.Queue.{empty-made}
 use Rattle.film_status.specs.Status.{status_of, Returns}
@@ -13,14 +13,14 @@ use Rattle.film_fragments.specs.Fragments.{GivesLookup, FragmentCalls, ended, ca
 calls-made : {held : List Fragment} {q last : List ℕ} {cs : List QueueCall} {rs : List ℕ} → QueueMade held q → FragmentCalls q cs rs last → QueueMade (held_after held cs) last
 unfolding held_after
 calls-made m ended = m
-calls-made {held} m (called g run) = calls-made (g.queue.due held m).made run
+calls-made {held = held} m (called {c = c} g run) = calls-made {held = kept (call_held held c) held} (g.queue.due held m).made run
 
 calls-told : {held : List Fragment} {q last : List ℕ} {cs : List QueueCall} {rs : List ℕ} → QueueMade held q → FragmentCalls q cs rs last
     → rs ≡ map (λ (a : Answer Unit). status_of a) (answers_held held cs)
 unfolding answers_held
 calls-told m ended = refl
-calls-told {held} m (called g run) =
-    λ t. (g.status ∙ ap (λ (a : Answer Unit). status_of a) (g.queue.due held m).answer) t ∷ calls-told (g.queue.due held m).made run t
+calls-told {held = held} m (called {c = c} g run) =
+    λ t. (g.status ∙ ap (λ (a : Answer Unit). status_of a) (g.queue.due held m).answer) t ∷ calls-told {held = kept (call_held held c) held} (g.queue.due held m).made run t
 
 -- from a queue of four zeros: the statuses due, the sums a recount, and a lookup over the fragments held
 module _ {q last : List ℕ} (empty : QueueEmpty q) {cs : List QueueCall} {rs : List ℕ} (run : FragmentCalls q cs rs last) where

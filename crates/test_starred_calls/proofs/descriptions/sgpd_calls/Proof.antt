@@ -56,7 +56,7 @@ returns c =
     let at-three = at_1.before.before in (
       at-three.parse-sgpd.ensures ∙ parsed_as three (row 19),
       (
-        at_1.entry_IsPlace.ensures ∙ placed_as three (row 19) 1,
+        at_1.entry_place.ensures ∙ placed_as three (row 19) 1,
         (
           at-2.entry-place2.ensures ∙ row 22,
           (

@@ -19,7 +19,7 @@ returns : tie.Need-returns
 returns c =
     let found = c.before.before.before.before in
     let a = found.before.before.args in
-    told-outside a.s.now a.index.0 (ap told_entry (sym c.before.before.enum_told.given.1) ∙ found.entry_IsPlace.ensures) c.if1.true
+    told-outside a.s.now a.index.0 (ap told_entry (sym c.before.before.enum_told.given.1) ∙ found.entry_place.ensures) c.if1.true
 
 enum-known-n : tie.Need-enum-known-n
 enum-known-n c = search rules
@@ -28,19 +28,19 @@ returns-2 : tie.Need-returns-2
 returns-2 c =
     let found = c.before.before.before in
     let a = found.before.before.args in
-    told-entry a.s.now a.index.0 (ap told_entry (sym c.before.place.given.1) ∙ found.entry_IsPlace.ensures)
+    told-entry a.s.now a.index.0 (ap told_entry (sym c.before.place.given.1) ∙ found.entry_place.ensures)
 
 returns-3 : tie.Need-returns-3
 returns-3 c =
     let found = c.before.before.before.before in
     let a = found.before.before.args in
-    told-missing a.s.now a.index.0 (ap told_entry (sym c.before.before.enum_told.given.1) ∙ found.entry_IsPlace.ensures) c.if1.false
+    told-missing a.s.now a.index.0 (ap told_entry (sym c.before.before.enum_told.given.1) ∙ found.entry_place.ensures) c.if1.false
 
 returns-4 : tie.Need-returns-4
 returns-4 c =
     let found = c.before.before.before in
     let a = found.before.before.args in
-    told-refused a.s.now a.index.0 (ap told_entry (sym c.before.n.given.1) ∙ found.entry_IsPlace.ensures)
+    told-refused a.s.now a.index.0 (ap told_entry (sym c.before.n.given.1) ∙ found.entry_place.ensures)
 
 pub entry-of-spec : {M : Type 1} → statement M
 entry-of-spec =
