@@ -40,6 +40,7 @@ replay-limit room rows (i ∷ is) h = by (λ next g. replay-limit room next is g
         → (told : Answer (List Row)) → One (covered rows) told → RefusesBy (λ n. n ≡ 29) ⊥ (and_then told (λ next. replay room next is))
     by rest (given next) o = rest next (omega arith)
     by rest (refused m) o = o
+    by rest none o = elim o [ ]
 
 -- the numbers that are left
 abbrev Others : ℕ → Type 0
@@ -62,3 +63,4 @@ never-over l stated a b i h e =
     full : (told : Answer (List Row)) → RefusesBy (λ n. n ≡ 29) ⊥ told → RefusesBy Others Unit told
     full (given out) f = tt
     full (refused n) f = λ e. omega arith
+    full none f = elim f [ ]

@@ -59,6 +59,7 @@ tail-runs room out (r ∷ rs) h c =
         ≡ and_then (and_then (replay room out (replicate r.count r.index)) (λ next. replay room next (expand rs))) (λ last. given (tail_of last))
     by rest (given t) e = rw (e.0, e.1) (rest (with_run out r.count r.index) (rw e.1 at e.2))
     by rest (refused n) e = rw e
+    by rest none e = elim e [ ]
 
 -- a run whose samples were entered was joined
 run-joined : (room : ℕ) (out : List Row) (r : Row) {next : List Row} → (tail_of out).count ≤ count_limit → r.count ≤ count_limit
@@ -81,6 +82,7 @@ run-joined room out r {next} h g e =
         let same : with_run out r.count r.index ≡ next = given_inj (sym f.0 ∙ e) in
         (with ∙ same, subst (λ (l : List Row). (tail_of l).count ≤ count_limit) same (rw f.1 at f.2))
     by with (refused m) f = absurd (refused-given (sym f ∙ e))
+    by with none f = elim f [ ]
 
 pub runs-joined : (room : ℕ) (out rs : List Row) {last : List Row} → (tail_of out).count ≤ count_limit → SmallCounts rs
     → replay room out (expand rs) ≡ given last → rows_with_all out rs ≡ last

@@ -69,7 +69,7 @@ pub puts-next : {l : List ℕ} {made out : List Row} (rs : List Row) {ts : List 
     → Putting l made out (rs ++ ts) w → Putting l made (rows_with_all out rs) ts (put_runs w rs)
 unfolding rows_with_all put_runs
 puts-next [] p = p
-puts-next (r ∷ rs) p = puts-next rs (put_next p)
+puts-next {l = l} {made = made} {out = out} (r ∷ rs) {ts = ts} {w = w} p = puts-next {out = rows_with out r} rs (put_next p)
 
 -- before the row `ahead`, with the stated rows from row j on behind it: j rows were read, and all but the last new row are stored,
 -- fewer than j + 1
