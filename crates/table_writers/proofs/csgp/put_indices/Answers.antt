@@ -1,0 +1,61 @@
+use mathlib.Core.Path.{refl, sym, ◌∙◌}
+use Prim.Native.Nat.{◌-◌}
+use native.Mathlib.Omega.{arith}
+use borrow.Author.Rules.{rules}
+use Rattle.table_writers.proofs.Halves.{number-length, number-free, row_room, row_put, indices_step, indices-end}
+use Rattle.table_writers.proofs.csgp.put_indices.Goals as goal
+
+pub loop-r-init : goal.loop-r-init
+loop-r-init c = (search rules, c.requires.0, refl, refl)
+
+pub index_field-requires : goal.index_field-requires
+index_field-requires c =
+    (c.requires.1, c.loop-r.invariant.1.width)
+
+pub put_number-requires : goal.put_number-requires
+put_number-requires c =
+    let o = c.loop-r in
+    let a = c.args in
+    let g = rw c.in-Run.is at c.next_run.ensures in
+    (row_room _ _ g.rows a.m a.m o.h o.out o.invariant.1, o.invariant.1.width, o.invariant.1.free)
+
+pub overflow_add-h : goal.overflow_add-h
+overflow_add-h c =
+    let o = c.loop-r in
+    let a = c.args in
+    let g = rw c.in-Run.is at c.next_run.ensures in
+    omega (arith, row_room _ _ g.rows a.m a.m o.h o.out o.invariant.1)
+
+pub loop-r-smaller : goal.loop-r-smaller
+loop-r-smaller c =
+    let g = rw c.in-Run.is at c.next_run.ensures in
+    omega (arith, g.onward, g.inside, c.loop-r.invariant.0)
+
+pub loop-r-preserved : goal.loop-r-preserved
+loop-r-preserved c =
+    let o = c.loop-r in
+    let a = c.args in
+    let g = rw c.in-Run.is at c.next_run.ensures in
+    let room = row_room _ _ g.rows a.m a.m o.h o.out o.invariant.1 in (
+      g.inside,
+      rw c.put_number.ensures
+          (row_put _ _ g.rows a.m a.m o.h o.out o.invariant.1 _ (number-length a.m o.h _ o.out) (number-free a.m o.h _ o.out room o.invariant.1.free)),
+      rw c.put_number.ensures (number-length a.m o.h _ o.out ∙ o.invariant.2),
+      rw (c.put_number.ensures, c.index_field.ensures) (sym (indices_step _ _ g.rows a.m o.h o.out a.marks) ∙ o.invariant.3),
+    )
+
+pub shape_of-out-in-Over : goal.shape_of-out-in-Over
+shape_of-out-in-Over c = c.loop-r.invariant.2
+
+pub returns-in-Over : goal.returns-in-Over
+returns-in-Over c =
+    absurd (omega (arith, c.loop-r.invariant.1.counts, rw c.in-Over.is at c.next_run.ensures))
+
+pub shape_of-out-in-End : goal.shape_of-out-in-End
+shape_of-out-in-End c = c.loop-r.invariant.2
+
+pub returns-in-End : goal.returns-in-End
+returns-in-End c =
+    let o = c.loop-r in
+    let a = c.args in
+    sym (indices-end (rw c.in-End.is at c.next_run.ensures) a.marks a.m o.h o.out) ∙ o.invariant.3

@@ -1,0 +1,66 @@
+use mathlib.Core.Path.{◌≡◌, refl, sym, ◌∙◌}
+use Prim.Native.Nat.{◌+◌, ◌-◌}
+use native.Mathlib.Omega.{arith}
+use borrow.Author.Rules.{rules}
+use Rattle.table_writers.proofs.Halves.{row_room, row_put, pair-length, pair-free, pairs-step, pairs-place, pairs_end, place_end}
+use Rattle.table_writers.proofs.csgp.put_pairs.Goals as goal
+
+pub loop-r-init : goal.loop-r-init
+loop-r-init c = (search rules, c.requires, refl, refl, refl)
+
+pub put_pair-requires : goal.put_pair-requires
+put_pair-requires c =
+    let o = c.loop-r in
+    let a = c.args in
+    let g = rw c.in-Run.is at c.next_run.ensures in
+    (omega (arith, row_room _ _ g.rows (1 + a.m) a.m o.h o.out o.invariant.1), o.invariant.1.width, o.invariant.1.free)
+
+pub overflow_add-h : goal.overflow_add-h
+overflow_add-h c =
+    let o = c.loop-r in
+    let a = c.args in
+    let g = rw c.in-Run.is at c.next_run.ensures in
+    omega (arith, row_room _ _ g.rows (1 + a.m) a.m o.h o.out o.invariant.1)
+
+pub overflow_add-h-in-Run : goal.overflow_add-h-in-Run
+overflow_add-h-in-Run c =
+    let o = c.loop-r in
+    let a = c.args in
+    let g = rw c.in-Run.is at c.next_run.ensures in
+    omega (arith, row_room _ _ g.rows (1 + a.m) a.m o.h o.out o.invariant.1)
+
+pub loop-r-smaller : goal.loop-r-smaller
+loop-r-smaller c =
+    let g = rw c.in-Run.is at c.next_run.ensures in
+    omega (arith, g.onward, g.inside, c.loop-r.invariant.0)
+
+pub loop-r-preserved : goal.loop-r-preserved
+loop-r-preserved c =
+    let o = c.loop-r in
+    let a = c.args in
+    let g = rw c.in-Run.is at c.next_run.ensures in
+    let e : o.h + 1 + a.m ≡ o.h + (1 + a.m) = omega arith in
+    let room = row_room _ _ g.rows (1 + a.m) a.m o.h o.out o.invariant.1 in (
+      g.inside,
+      rw (e, c.put_pair.ensures) (row_put _ _ g.rows (1 + a.m) a.m o.h o.out o.invariant.1 _ (pair-length a.m o.h _ o.out) (pair-free a.m o.h _ o.out room)),
+      rw c.put_pair.ensures (pair-length a.m o.h _ o.out ∙ o.invariant.2),
+      rw c.put_pair.ensures (sym (pairs-step _ _ g.rows a.m o.h o.out) ∙ o.invariant.3),
+      sym (pairs-place _ _ g.rows a.m o.h o.out) ∙ o.invariant.4,
+    )
+
+pub shape_of-out-in-Over : goal.shape_of-out-in-Over
+shape_of-out-in-Over c = c.loop-r.invariant.2
+
+pub returns-in-Over : goal.returns-in-Over
+returns-in-Over c =
+    absurd (omega (arith, c.loop-r.invariant.1.counts, rw c.in-Over.is at c.next_run.ensures))
+
+pub shape_of-out-in-End : goal.shape_of-out-in-End
+shape_of-out-in-End c = c.loop-r.invariant.2
+
+pub returns-in-End : goal.returns-in-End
+returns-in-End c =
+    let o = c.loop-r in
+    let m = c.args.m in
+    let none = rw c.in-End.is at c.next_run.ensures in
+    (sym (pairs_end none m o.h o.out) ∙ o.invariant.3, sym (place_end none (1 + m) o.h) ∙ o.invariant.4)
