@@ -1,0 +1,6 @@
+use native.Mathlib.Omega.{arith}
+use Prim.Native.Nat.{◌-◌}
+use Rattle.test_vectors_tables.proofs.same_rows.Goals as goal
+
+pub overflow_cast-rows : goal.overflow_cast-rows
+overflow_cast-rows c = omega (arith, c.type_inv.rows c.loop-k.k)
