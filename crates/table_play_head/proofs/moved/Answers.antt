@@ -21,9 +21,6 @@ returns-then-record_count-row c below =
 pub returns-then-sample-ge-LAST_SAMPLE : goal.returns-then-sample-ge-LAST_SAMPLE
 returns-then-sample-ge-LAST_SAMPLE c below = sym (onward-last _ _ c.if-head.false c.if-sample-ge-LAST_SAMPLE.true)
 
-pub returns-then-sample-within : goal.returns-then-sample-within
-returns-then-sample-within c below = absurd (omega (arith, below, c.if-sample-within.true))
-
 pub returns : goal.returns
 returns c below =
     let w = c.walk_from-next.ensures in
