@@ -1,0 +1,6 @@
+-- The count is the lesser.
+use mathlib.Core.Path.{refl}
+use Rattle.use_decode_start.proofs.search.cut_pattern.Goals as goal
+
+pub returns : goal.returns
+returns c = rw c.least.ensures refl
