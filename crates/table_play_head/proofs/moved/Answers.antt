@@ -1,6 +1,5 @@
 use mathlib.Core.Path.{refl, sym, ◌∙◌}
 use native.Mathlib.Numerals.{add-one}
-use native.Mathlib.Omega.{arith}
 use Rattle.std.proofs.Common.{drop}
 use Rattle.table_rows.specs.Row.{rows_of}
 use Rattle.table_play_head.specs.Play.{last_sample}

@@ -1,4 +1,4 @@
-use Rattle.std.proofs.Common.{◌≡◌, ◌<◌, ◌≤◌, ◌+◌, length, sym, arith}
+use Rattle.std.proofs.Common.{◌≡◌, ◌≤◌, ◌+◌, length, sym, arith}
 use Rattle.table_row_structs.specs.Records.{read_count}
 use Rattle.table_row_structs.proofs.Sums.{sum_to, sum-none, sum-next, read-within}
 use Rattle.table_row_structs.proofs.covered_samples.Goals as goal

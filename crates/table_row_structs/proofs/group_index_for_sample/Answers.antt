@@ -1,8 +1,7 @@
-use Rattle.std.proofs.Common.{◌≡◌, ℕ, ◌<◌, length, get_or, sym, subst, arith}
+use Rattle.std.proofs.Common.{◌≡◌, ◌<◌, length, get_or, sym, subst}
 use Rattle.table_row_structs.specs.Records.{no_row, read_count}
 use Rattle.table_row_structs.specs.Steps.{passed}
 use Rattle.table_row_structs.specs.declared.Search.{Search}
-use Rattle.table_row_structs.proofs.Sums.{read-within}
 use Rattle.table_row_structs.proofs.Searching.{Seeks, seeks-first, seeks-passed, read_if}
 use Rattle.table_row_structs.proofs.group_index_for_sample.Goals as goal
 

@@ -1,4 +1,4 @@
-use Rattle.std.proofs.Common.{◌-◌, length}
+use Rattle.std.proofs.Common.{◌-◌}
 use Rattle.table_row_structs.proofs.Searching.{Seeks}
 use Rattle.table_row_structs.proofs.group_index_for_sample.Given as goal
 

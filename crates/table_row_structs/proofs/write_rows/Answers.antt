@@ -1,7 +1,6 @@
-use Rattle.std.proofs.Common.{◌≡◌, ◌<◌, ◌≤◌, ◌+◌, length, set, le_antisymm, arith}
+use Rattle.std.proofs.Common.{◌≡◌, ◌<◌, length, arith}
 use Rattle.table_rows.specs.Row.{records_in}
-use Rattle.table_row_structs.specs.Steps.{GivesRows, accepted_in}
-use Rattle.table_row_structs.specs.declared.SampleToGroupEntry.{SampleToGroupEntry}
+use Rattle.table_row_structs.specs.Steps.{accepted_in}
 use Rattle.table_row_structs.proofs.Copying.{up_to, up_to-next, accepted-within, copies}
 use Rattle.table_row_structs.proofs.write_rows.Goals as goal
 

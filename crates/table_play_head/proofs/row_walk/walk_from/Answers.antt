@@ -1,4 +1,3 @@
-use Prim.Native.Nat.{◌-◌}
 use Rattle.table_play_head.proofs.Records.{ahead-start, ahead-next, ends-here, ends-past}
 use Rattle.table_play_head.proofs.row_walk.walk_from.Goals as goal
 
