@@ -1,5 +1,4 @@
 use native.Mathlib.Omega.{arith}
-use Prim.Native.Nat.{◌-◌}
 use Rattle.test_vectors_tables.proofs.same_rows.Goals as goal
 
 pub overflow_cast-rows : goal.overflow_cast-rows

@@ -1,5 +1,5 @@
 -- The loop's invariant: the digits passed wrote the first n bytes, and all are digits exactly when those not passed are.
-use Prim.Native.Nat.{◌+◌, ◌-◌, ◌≤◌}
+use Prim.Native.Nat.{◌-◌, ◌≤◌}
 use lib.ListN.{length, take}
 use lib.Seq.{slice}
 use mathlib.Core.List.{◌++◌}

@@ -1,6 +1,5 @@
 use borrow.Author.Rules.{rules}
 use native.Mathlib.Omega.{arith}
-use Prim.Native.Nat.{◌-◌}
 use mathlib.Core.Path.{refl}
 use Rattle.test_vector_lines.proofs.Laws.{line_ends, line_goes, line_none}
 use Rattle.test_vector_lines.proofs.text.line_end.Goals as goal
