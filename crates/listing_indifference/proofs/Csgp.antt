@@ -58,6 +58,7 @@ end-behind w [] q = omega arith
 end-behind w (r ∷ rs) q = omega (arith, end-behind w rs (q + w * r.pattern_length))
 
 pub unused-behind : (w : ℕ) (rs : List Pair) (q i : ℕ) → UnusedIn w rs q i → q ≤ i
+unused-behind w [] q i x = elim x [ ]
 unused-behind w (r ∷ rs) q i (inl h) = omega (arith, h.0)
 unused-behind w (r ∷ rs) q i (inr h) = omega (arith, unused-behind w rs (q + w * r.pattern_length) i h)
 

@@ -95,6 +95,12 @@ module _ {t : ℕ} {used a b : List ℕ} (named : be_at 4 a 4 ≡ t) (d : Differ
       by (given ps) (given qs) e f s = let z = patterns-kept r e (are ps e) in rw (e, f) at z
       by none none e f s = tt
       by (refused m) (refused n) e f s = s
+      by (given ps) none e f s = elim s [ ]
+      by (given ps) (refused n) e f s = elim s [ ]
+      by none (given qs) e f s = elim s [ ]
+      by none (refused n) e f s = elim s [ ]
+      by (refused m) (given qs) e f s = elim s [ ]
+      by (refused m) none e f s = elim s [ ]
 
   pub csgp-same : ((ps : List Pattern) → csgp a ≡ given ps → used ≡ samples_of ps) → Both SameSamples (csgp a) (csgp b)
   unfolding csgp

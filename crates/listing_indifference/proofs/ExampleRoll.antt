@@ -15,7 +15,7 @@ use Rattle.atom_tree.specs.Atom.{Child, header_at, child_at}
 use Rattle.table_rows.specs.Row.{Table}
 use Rattle.table_rows.specs.Pattern.{index_in, samples_from, samples_of}
 use Rattle.table_sbgp.specs.Sbgp.{read_rows, sbgp}
-use Rattle.base_fields.specs.Span.{Span}
+use Rattle.base_fields.specs.Span.{Span, bytes_at}
 use Rattle.group_sgpd.specs.Sgpd.{span_at, spans, sgpd}
 use Rattle.listing_spec.specs.Walk.{body_of, visit_table, visit_sgpd, visit, walk_in, walk_from, sources}
 use Rattle.listing_spec.specs.Table.{patterns_taken}
@@ -23,7 +23,7 @@ use Rattle.listing_spec.specs.Cue.{cue_listing}
 use Rattle.listing_spec.specs.Meanings.{patterns_in}
 use Rattle.listing_indifference.specs.Bits.{Differ}
 use Rattle.listing_indifference.specs.Places as places
-use Rattle.listing_indifference.specs.Places.{SbgpListed, InEntries, laid_out, entries_laid, SgpdListed}
+use Rattle.listing_indifference.specs.Places.{SbgpListed, EntryListed, InEntries, laid_out, entries_laid, SgpdListed}
 use Rattle.listing_indifference.specs.Examples.{roll_body as body, roll_other as other}
 use Rattle.listing_indifference.specs.Body.{child_bytes, other_kind, in_sbgp, in_sgpd, used_indices, BodyListed}
 use Rattle.listing_indifference.proofs.Differ.{differ-refl}
@@ -138,10 +138,10 @@ related =
     (λ j l. inr (in-descriptions (432 + j) (24 + j) (omega arith) (omega arith) (places.SgpdListed.flags (omega arith) (omega arith)))) in
     let d6 = differ_byte may body b5 d5 69 255 (omega arith) (omega arith)
     (λ j l. inr (in-descriptions (552 + j) (144 + j) (omega arith) (omega arith)
-    (places.SgpdListed.ignored (laid _ _ (inl (omega arith, omega arith, places.EntryListed.after_roll refl (omega arith))))))) in
+    (places.SgpdListed.ignored (laid (λ k e i. EntryListed fourcc.roll (bytes_at (child_bytes body descriptions) e) i) _ (inl (omega arith, omega arith, places.EntryListed.after_roll refl (omega arith))))))) in
     let d7 = differ_byte may body b6 d6 71 88 (omega arith) (omega arith)
     (λ j l. inr (in-descriptions (568 + j) (160 + j) (omega arith) (omega arith)
-    (places.SgpdListed.unused_entry (laid _ _ (inr (inl (omega arith, omega arith, unused))))))) in
+    (places.SgpdListed.unused_entry (laid (λ k e i. Memᴰ k (used_indices body fourcc.roll) → ⊥) _ (inr (inl (omega arith, omega arith, unused))))))) in
     differ_byte may body b7 d7 73 1 (omega arith) (omega arith)
     (λ j l. inr (in-descriptions (584 + j) (176 + j) (omega arith) (omega arith) (places.SgpdListed.after_entries read (omega arith))))
 

@@ -14,12 +14,12 @@ use Rattle.base_fields.specs.Fourcc as fourcc
 use Rattle.atom_tree.specs.Atom.{Child, header_at, child_at}
 use Rattle.table_rows.specs.Pattern.{Pattern}
 use Rattle.table_csgp_head.specs.Csgp.{Pair, width_of, pattern_count_of, stream_place, read_pairs, read_indices, read_patterns, csgp}
-use Rattle.base_fields.specs.Span.{Span}
+use Rattle.base_fields.specs.Span.{Span, bytes_at}
 use Rattle.group_sgpd.specs.Sgpd.{implicit_length}
 use Rattle.listing_spec.specs.Cue.{cue_listing}
 use Rattle.listing_indifference.specs.Bits.{Differ}
 use Rattle.listing_indifference.specs.Places as places
-use Rattle.listing_indifference.specs.Places.{SbgpListed, CsgpListed, InEntries, laid_out, entries_laid, SgpdListed}
+use Rattle.listing_indifference.specs.Places.{SbgpListed, CsgpListed, EntryListed, InEntries, laid_out, entries_laid, SgpdListed}
 use Rattle.listing_indifference.specs.Examples.{tele_body as body, tele_other as other}
 use Rattle.listing_indifference.specs.Body.{child_bytes, in_sbgp, in_csgp, in_sgpd, used_indices, BodyListed}
 use Rattle.listing_indifference.proofs.Differ.{differ-refl}
@@ -122,7 +122,7 @@ low : (j : ℕ) → j < 8 → (0x80 / 2 ^ (7 - j) % 2 ≡ 0xff / 2 ^ (7 - j) % 2
 low zero l = inl refl
 low (suc n) l =
     inr (in-descriptions (512 + suc n) (97 + n) (omega arith) (omega arith)
-    (places.SgpdListed.ignored (laid _ _ (inl (omega arith, omega arith, places.EntryListed.low_tele refl (omega arith) (omega arith))))))
+    (places.SgpdListed.ignored (laid (λ k e i. EntryListed fourcc.tele (bytes_at (child_bytes body descriptions) e) i) _ (inl (omega arith, omega arith, places.EntryListed.low_tele refl (omega arith) (omega arith))))))
 
 related : Differ May body other
 unfolding be_at

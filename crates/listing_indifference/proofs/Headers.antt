@@ -13,7 +13,7 @@ use Rattle.base_fields.proofs.Agree.{Same, be_same}
 use Rattle.base_fields.proofs.Answers.{Holds, holds-refuse_if, holds-none_if, holds-choose, holds-and_then, holds-given}
 use Rattle.base_fields.proofs.Bits.{Bytes}
 use Rattle.base_fields.proofs.Both.{choose-same}
-use Rattle.atom_tree.specs.Atom.{Known, Header, Ends, Child, last_place, below_header, uuid_type, name_bytes, ended_header, sized_header, header_at, child_at, end_of, inside}
+use Rattle.atom_tree.specs.Atom.{Known, Header, Ends, Child, last_place, sized_header, header_at, child_at, end_of, inside}
 use Rattle.atom_tree.proofs.Headers.{header-sound}
 use Rattle.atom_tree.proofs.Onward.{header-there}
 
@@ -42,20 +42,11 @@ pub record Behind (s : List ℕ) (p : ℕ) (h : Header) : Type 0 where
   pub more : be_at 4 s p ≡ 1 → p + 16 ≤ h.body
 
 module _ (s : List ℕ) (p : ℕ) where
-  ended-behind : (size : Known) (n : ℕ) → 8 ≤ n → (be_at 4 s p ≡ 1 → 16 ≤ n) → Holds (Behind s p) (ended_header s p size n)
-  ended-behind none n eight more = record { eight = omega arith; more = λ o. omega (arith, more o) }
-  ended-behind (some size) n eight more =
-      holds-refuse_if (Behind s p) (ltb last_place (p + size)) 5 _ (λ _. record { eight = omega arith; more = λ o. omega (arith, more o) })
-
-  -- a header whose size fields are n bytes, by the type. Of a name only its presence is asked
+  -- a header whose size fields are n bytes
   sized-behind : (size : Known) (n : ℕ) → 8 ≤ n → (be_at 4 s p ≡ 1 → 16 ≤ n) → Holds (Behind s p) (sized_header s p size n)
-  sized-behind size n eight more =
-      let P = Behind s p in
-      let long = n + name_bytes in
-      holds-choose P (eqb (be_at 4 s (p + 4)) uuid_type) _ _
-      (λ _. holds-refuse_if P (ltb (length s) (p + long)) 68 _ (λ _.
-      holds-refuse_if P (below_header size long) 69 _ (λ _. ended-behind size long (omega arith) (λ o. omega (arith, more o)))))
-      (λ _. ended-behind size n eight more)
+  sized-behind none n eight more = record { eight = omega arith; more = λ o. omega (arith, more o) }
+  sized-behind (some size) n eight more =
+      holds-refuse_if (Behind s p) (ltb last_place (p + size)) 5 _ (λ _. record { eight = omega arith; more = λ o. omega (arith, more o) })
 
   header-behind : Holds (Behind s p) (header_at s p)
   unfolding header_at

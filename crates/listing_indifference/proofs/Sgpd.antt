@@ -2,7 +2,7 @@
 use mathlib.Core.Path.{◌≡◌, refl}
 use mathlib.Core.Logic.{◌⊎◌, inl, inr}
 use mathlib.Core.Bool.{Bool, true, false}
-use mathlib.Core.List.{List, ◌∷◌, Memᴰ}
+use mathlib.Core.List.{List, [], ◌∷◌, Memᴰ}
 use Prim.Native.Nat.{ℕ, suc, ◌*◌, ◌<◌, ◌≤◌}
 use native.Mathlib.Omega.{arith}
 use lib.Dec.{eqb}
@@ -19,6 +19,7 @@ use Rattle.listing_indifference.proofs.Spans.{end-behind, entries-behind, laid-a
 
 in_map : (P Q : ℕ → Span → ℕ → Type 0) → ((k : ℕ) (e : Span) (j : ℕ) → P k e j → Q k e j) → (k : ℕ) (es : List Span) (i : ℕ)
     → InEntries P k es i → InEntries Q k es i
+in_map P Q f k [] i x = elim x [ ]
 in_map P Q f k (e ∷ es) i (inl h) = inl (h.0, h.1, f k e _ h.2)
 in_map P Q f k (e ∷ es) i (inr h) = inr (in_map P Q f (suc k) es i h)
 
@@ -45,8 +46,8 @@ module _ (t : ℕ) (used a : List ℕ) where
   -- in front of the entries only the flags are listed, and what stands behind the type where that is another
   pub head-kept : (k : ℕ) → k < 8 * first_place a → (8 ≤ k → 32 ≤ k) → ((be_at 4 a 4 ≡ t → ⊥) → k < 64) → SgpdListed t used a k → ⊥
   head-kept k l m o (places.flags u v) = omega (arith, m u)
-  head-kept k l m o (places.unused_entry u) = omega (arith, in-behind _ k u)
-  head-kept k l m o (places.ignored u) = omega (arith, in-behind _ k u)
+  head-kept k l m o (places.unused_entry u) = omega (arith, in-behind (λ n e j. Memᴰ n used → ⊥) k u)
+  head-kept k l m o (places.ignored u) = omega (arith, in-behind (λ n e j. EntryListed t (bytes_at a e) j) k u)
   head-kept k l m o (places.after_entries e u) = omega (arith, end_is e, end-behind a (entry_count_of a) (first_place a))
   head-kept k l m o (places.other_type n u) = omega (arith, o n)
 
