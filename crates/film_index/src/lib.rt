@@ -2,3 +2,14 @@
 #![tactic(auto)]
 
 mod atoms;
+mod descriptions;
+mod entries;
+mod fragments;
+mod listing;
+mod play;
+mod profile;
+mod repaint;
+mod starts;
+mod sync;
+mod tables;
+mod writing;
