@@ -1,0 +1,5 @@
+-- The needs by their contract, the status and `out` by `put_needs`.
+use Rattle.film_groups.proofs.film_file_listing_needs.Goals as goal
+
+pub returns : goal.returns
+returns c = rw c.file_listing_needs.ensures at c.put_needs.ensures
