@@ -1,6 +1,6 @@
 -- How the number of lent records changes what the reader of a csgp answers: with as many as rows it gives the table, with fewer it is 29.
 use mathlib.Core.Path.{◌≡◌, refl, ap, sym, ◌∙◌}
-use mathlib.Core.List.{List, [], reverse}
+use mathlib.Core.List.{List, []}
 use Prim.Native.Nat.{ℕ, ◌<◌, ◌≤◌}
 use native.Mathlib.Omega.{arith}
 use lib.ListN.{length, length-reverse}

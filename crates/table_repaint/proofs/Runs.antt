@@ -13,7 +13,7 @@ use Rattle.base_fields.proofs.Answers.{given_inj, given-first, refused-given}
 use Rattle.base_ids.specs.Limits.{count_limit}
 use Rattle.table_rows.specs.Row.{Row, expand}
 use Rattle.table_replay.specs.Enter.{tail_of, enter_run}
-use Rattle.table_replay.specs.Replay.{enter, replay}
+use Rattle.table_replay.specs.Replay.{replay}
 use Rattle.table_replay.specs.declared.enter.Tail.{Tail}
 use Rattle.table_rows.proofs.Choice.{either}
 use Rattle.table_replay.proofs.Replay.{replay_append}

@@ -5,7 +5,7 @@ use native.Mathlib.Decide.{dec_lt}
 use native.Mathlib.Omega.{arith}
 use borrow.Author.Tests.{lt-ltb, le-ltb, le-leb, lt-leb, eq-eqb, ne_eqb}
 use mathlib.Core.List.{List, [], ◌∷◌}
-use lib.ListN.{length, set}
+use lib.ListN.{set}
 use Rattle.base_fields.specs.Answer.{Answer, given, refused}
 use Rattle.base_fields.proofs.Answers.{given_inj, refused-given}
 use Rattle.base_ids.specs.Limits.{record_limit}

@@ -1,6 +1,6 @@
 -- `half_bytes::put_number` meets its contract. The invariant: the half bytes still to come make of the output what all of them make of the first.
 use mathlib.Core.Path.{◌≡◌}
-use Prim.Native.Nat.{◌+◌, ◌-◌, ◌*◌, ◌/◌, ◌%◌, ◌≤◌}
+use Prim.Native.Nat.{◌+◌, ◌*◌, ◌/◌, ◌%◌, ◌≤◌}
 use lib.ListN.{length, get_or}
 use Rattle.table_writing.specs.Output.{number_put}
 use Rattle.table_half_bytes.proofs.put_number.Given as goal

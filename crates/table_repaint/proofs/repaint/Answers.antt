@@ -1,6 +1,5 @@
 -- The preview decides; where it gives a row count the rows are written, else nothing is touched.
 use mathlib.Core.Path.{ap, sym, ◌∙◌}
-use native.Mathlib.Omega.{arith}
 use Rattle.table_repaint.specs.Repainted.{told_repainted}
 use Rattle.table_repaint.proofs.Answer.{preview_accepted, gives-refused}
 use Rattle.table_repaint.proofs.repaint.Goals as goal

@@ -4,7 +4,7 @@ use Rattle.table_sync.specs.Sync.{numbers_in}
 use Rattle.base_fields.specs.Number.{be_at}
 use lib.ListN.{length, get_or}
 use native.Mathlib.Omega.{arith}
-use Prim.Native.Nat.{◌+◌, ◌-◌, ◌*◌, ◌≤◌}
+use Prim.Native.Nat.{◌+◌, ◌*◌, ◌≤◌}
 use mathlib.Core.Path.{◌≡◌, sym, ◌∙◌}
 use Rattle.table_sync.proofs.last_number.Goals as goal
 use Rattle.table_sync.proofs.last_number.Goals.{After-read_u32-number, At-loop-k}

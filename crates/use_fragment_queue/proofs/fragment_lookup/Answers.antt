@@ -1,4 +1,3 @@
-use Prim.Native.Nat.{◌-◌}
 use native.Mathlib.Omega.{arith}
 use borrow.Author.Rules.{rules}
 use Rattle.use_fragment_queue.proofs.Walk.{ahead-start, ahead-here, ahead-next, ahead-end, answers}

@@ -1,6 +1,6 @@
 use mathlib.Core.Path.{◌≡◌, refl, ap, sym, subst, ◌∙◌}
 use mathlib.Core.Logic.{◌⊎◌, inl, inr, ⊎_elim}
-use Prim.Native.Nat.{ℕ, ◌<◌, ◌-◌}
+use Prim.Native.Nat.{ℕ, ◌<◌}
 use native.Mathlib.Omega.{arith}
 use mathlib.Core.List.{List, []}
 use lib.ListN.{length}
@@ -9,7 +9,6 @@ use Rattle.table_rows.specs.Row.{Row}
 use Rattle.table_patterns.specs.Place.{pattern_in}
 use Rattle.table_replay.specs.Step.{NextRun, GivesStep}
 use Rattle.table_replay.specs.declared.step.Stepped.{Stepped}
-use Rattle.table_replay.specs.declared.step.Stepped.TheVariants as stepped
 use Rattle.table_replay.proofs.Stepping.{next-run}
 use Rattle.table_replay.proofs.Within.{Replaying, replaying-first, replaying-end, rows-standing, within_first, within-refused, within_step, within_end}
 use Rattle.table_csgp_head.specs.Head.{Whole}

@@ -1,5 +1,4 @@
 -- The loop's invariant: what is ahead decides the whole (`Checked`).
-use Prim.Native.Nat.{◌-◌}
 use Rattle.table_csgp_head.proofs.Checked.{Checked}
 use Rattle.table_csgp_head.proofs.head.check_patterns.Given as goal
 

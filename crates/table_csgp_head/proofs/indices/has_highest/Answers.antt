@@ -2,7 +2,6 @@ use mathlib.Core.Path.{◌≡◌, sym, ◌∙◌}
 use Prim.Native.Nat.{ℕ, ◌+◌, ◌-◌, ◌*◌, ◌/◌, ◌%◌, ◌^◌}
 use native.Mathlib.Omega.{arith}
 use borrow.Author.Count.{below_more}
-use mathlib.Core.Bool.{false}
 use Rattle.base_fields.specs.Number.{bit_at}
 use Rattle.table_csgp_head.proofs.Large.{highest-at}
 use Rattle.table_csgp_head.proofs.indices.has_highest.Goals as goal

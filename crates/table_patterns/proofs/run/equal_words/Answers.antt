@@ -1,5 +1,4 @@
 use mathlib.Core.Path.{sym, ◌∙◌}
-use Prim.Native.Nat.{◌-◌}
 use native.Mathlib.Omega.{arith}
 use Rattle.table_patterns.proofs.Words.{words-none, words_more}
 use Rattle.table_patterns.proofs.run.equal_words.Goals as goal

@@ -1,5 +1,4 @@
 use mathlib.Core.Path.{refl, ◌∙◌}
-use Prim.Native.Nat.{◌-◌}
 use native.Mathlib.Omega.{arith}
 use Rattle.table_repaint.proofs.Loop.{cuts-ready, cuts-length, cuts-room, cuts-next, cuts-end, stated_fits, first-ready, front-made}
 use Rattle.table_repaint.proofs.write.write_repainted.Goals as goal

@@ -2,7 +2,6 @@ use mathlib.Core.Path.{◌≡◌, refl, sym, ap, subst, ◌∙◌}
 use Prim.Native.Nat.{ℕ, ◌+◌, ◌-◌, ◌*◌, ◌%◌, ◌≤◌, ◌<◌}
 use native.Mathlib.Nat.{mod-lt, lt_trans}
 use native.Mathlib.Omega.{arith}
-use lib.ListN.{length}
 use Rattle.table_rows.specs.Row.{records_in}
 use Rattle.table_patterns.proofs.Runs.{field_end}
 use Rattle.table_replay.specs.Enter.{GivesSingle}

@@ -14,7 +14,6 @@ use Rattle.table_writing.proofs.Codes.{width-least}
 use Rattle.table_writers.proofs.Answering.{tally-low, tally-marks, tally-needs, tally-flags, tally-length}
 use Rattle.table_writers.proofs.Body.{pairs-ready, indices-ready, all-put}
 use Rattle.table_writers.proofs.Walk.{remain_length}
-use borrow.Author.Rules.{rules}
 use Rattle.table_writers.proofs.csgp.put_csgp.Goals as goal
 use Rattle.table_writers.proofs.csgp.put_csgp.Goals.{After-put_head}
 
