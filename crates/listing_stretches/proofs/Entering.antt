@@ -8,7 +8,7 @@ use native.Mathlib.Omega.{arith}
 use lib.ListN.{length, get_or, length-append, set, length-set}
 use lib.Seq.{get_or-set_same, get_or-set_other}
 use borrow.Author.Tests.{lt-ltb}
-use Rattle.base_fields.specs.Answer.{given, none}
+use Rattle.base_fields.specs.Answer.{given}
 use Rattle.base_fields.proofs.Answers.{given_inj}
 use Rattle.group_sgpd.specs.Head.{ReadWhole}
 use Rattle.group_sgpd.specs.declared.SgpdHead.{SgpdHead}

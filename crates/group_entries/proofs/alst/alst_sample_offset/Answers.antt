@@ -1,10 +1,9 @@
 -- The decoder's refusals first, none past the count (the laws of Front.antt); what is read lies inside by the extent that a decoded value tells.
-use mathlib.Core.Path.{◌≡◌, ap, sym, ◌∙◌}
+use mathlib.Core.Path.{ap, ◌∙◌}
 use native.Mathlib.Omega.{arith}
 use Rattle.base_fields.specs.Answer.{given}
-use Rattle.group_entries.specs.Decoded.{decode_alst, offset_at}
+use Rattle.group_entries.specs.Decoded.{offset_at}
 use Rattle.group_entries.specs.Told.{told_alst}
-use Rattle.group_entries.specs.declared.DecodedAlst.{DecodedAlst}
 use Rattle.group_entries.proofs.Front.{told-at, number-refused, number-none, number-given}
 use Rattle.group_entries.proofs.Extent.{AlstExtent, alst-extent}
 use Rattle.group_entries.proofs.alst.alst_sample_offset.Goals as goal

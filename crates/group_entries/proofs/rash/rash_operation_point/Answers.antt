@@ -6,9 +6,7 @@ use native.Mathlib.Omega.{arith}
 use lib.ListN.{length}
 use borrow.Author.Tests.{eq-eqb, ne_eqb}
 use Rattle.base_fields.specs.Answer.{given}
-use Rattle.group_entries.specs.Decoded.{decode_rash}
 use Rattle.group_entries.specs.Told.{told_rash}
-use Rattle.group_entries.specs.declared.DecodedRash.{DecodedRash}
 use Rattle.group_entries.proofs.Front.{told-at, number-refused, number-none, number-given}
 use Rattle.group_entries.proofs.Extent.{RashExtent, rash-extent, single, several}
 use Rattle.group_entries.proofs.rash.rash_operation_point.Goals as goal

@@ -1,5 +1,5 @@
 -- The decoder's refusals first, then 29 (the laws of Points.antt); what is read lies inside by the extent that a decoded value tells.
-use mathlib.Core.Path.{◌≡◌, refl, ap, sym, ◌∙◌}
+use mathlib.Core.Path.{refl, sym, ◌∙◌}
 use mathlib.Core.List.{List}
 use Prim.Native.Nat.{ℕ}
 use native.Mathlib.Omega.{arith}
@@ -7,7 +7,6 @@ use lib.ListN.{length-set}
 use borrow.Author.Tests.{eq-eqb, ne_eqb}
 use Rattle.group_entries.specs.Decoded.{decode_rash}
 use Rattle.group_entries.specs.Told.{told_rash}
-use Rattle.group_entries.specs.declared.DecodedRash.{DecodedRash}
 use Rattle.group_entries.specs.declared.DecodedRash.TheVariants as rash
 use Rattle.group_entries.proofs.Front.{ToldWithin, told-at}
 use Rattle.group_entries.proofs.Extent.{RashExtent, rash-extent}

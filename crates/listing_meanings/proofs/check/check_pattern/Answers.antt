@@ -1,9 +1,9 @@
 use mathlib.Core.Path.{◌≡◌, ap, sym, ◌∙◌}
 use mathlib.Core.List.{List}
-use Prim.Native.Nat.{ℕ, ◌<◌, ◌-◌}
+use Prim.Native.Nat.{ℕ, ◌<◌}
 use native.Mathlib.Omega.{arith}
 use lib.ListN.{length, get_or, take}
-use Rattle.base_fields.specs.Answer.{Answer, given}
+use Rattle.base_fields.specs.Answer.{Answer}
 use Rattle.base_fields.proofs.Answers.{given-first, refused-first}
 use Rattle.table_patterns.specs.Place.{pattern_in}
 use Rattle.table_patterns.specs.declared.PatternAt.{PatternAt}

@@ -1,5 +1,4 @@
 use mathlib.Core.Path.{◌≡◌, refl, ◌∙◌}
-use Prim.Native.Nat.{◌-◌}
 use native.Mathlib.Omega.{arith}
 use Rattle.group_entries.specs.Decoded.{pair_at}
 use Rattle.listing_theorem.specs.Listing.{pair_bytes}

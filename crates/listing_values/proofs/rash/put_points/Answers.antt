@@ -1,5 +1,4 @@
 use mathlib.Core.Path.{◌≡◌, refl, ◌∙◌}
-use Prim.Native.Nat.{◌-◌}
 use native.Mathlib.Omega.{arith}
 use Rattle.listing_theorem.specs.Listing.{point_bytes}
 use Rattle.listing_values.proofs.Each.{each_none, each-put}
