@@ -5,6 +5,7 @@ mod atoms;
 mod descriptions;
 mod entries;
 mod fragments;
+mod groups;
 mod listing;
 mod play;
 mod profile;
