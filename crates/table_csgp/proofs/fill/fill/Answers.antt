@@ -79,7 +79,7 @@ steps : (c : In-Next) (rows : List Row) →
     (let a = c.args in
     StateOf (pattern_in a.s.now c.pattern_at-pattern.result) (records_in a.rows.now) rows c.loop-state.state
     → Steps (pattern_in a.s.now c.pattern_at-pattern.result) (records_in a.rows.now) rows c.loop-state.state c.in-Next.next c.in-Next.stood)
-steps c = 
+steps c =
     let a = c.args in
     let r : Reached a.s.now a.head c.loop-here.here c.pattern_at-pattern.result = reached _ _ _ _ c.requires.0.fixed c.loop-here-test.true c.loop-here.invariant.1 c.pattern_at-pattern.ensures in
     let n = next-run _ _ _ r.stands c.run_at-run.ensures in

@@ -71,19 +71,19 @@ done c =
     let a = c.args in
     let i = c.replay.invariant in
     elim c.replay-test.branch [
-      else-replay-test w ↦
-        let all : Replaying (rows_for a.s.now a.room) a.room [] c.replay.tail = rw (none-coming a.s.now c.replay.here w.replay-test.false) at i.0 in
-        inl (w.told-is ∙ i.2, (all.rows, replaying-end all, rows-standing all))
-    | then-replay-test+then-loop-state-test+in-Over w ↦
-        let r : Reached a.s.now a.head c.replay.here w.pattern_at-pattern.result = reached _ _ _ _ c.requires.fixed w.replay-test.true c.replay.invariant.1 w.pattern_at-pattern.ensures in
-        let n = next-run _ _ _ r.stands w.run_at-run.ensures in
-        let g = subst (λ (x : Stepped). GivesStep (pattern_in a.s.now w.pattern_at-pattern.result) a.room w.loop-state.state x) w.in-Over.is (w.replay_step.ensures _ n) in
-        inr (omega (arith, w.told-is), rw w.told-is (within-refused _ w.loop-state.invariant.0 g))
-    | then-replay-test+then-loop-state-test+in-Full w ↦
-        let r : Reached a.s.now a.head c.replay.here w.pattern_at-pattern.result = reached _ _ _ _ c.requires.fixed w.replay-test.true c.replay.invariant.1 w.pattern_at-pattern.ensures in
-        let n = next-run _ _ _ r.stands w.run_at-run.ensures in
-        let g = subst (λ (x : Stepped). GivesStep (pattern_in a.s.now w.pattern_at-pattern.result) a.room w.loop-state.state x) w.in-Full.is (w.replay_step.ensures _ n) in
-        inr (omega (arith, w.told-is), rw w.told-is (within-refused _ w.loop-state.invariant.0 g))
+      | else-replay-test w ↦
+          let all : Replaying (rows_for a.s.now a.room) a.room [] c.replay.tail = rw (none-coming a.s.now c.replay.here w.replay-test.false) at i.0 in
+          inl (w.told-is ∙ i.2, (all.rows, replaying-end all, rows-standing all))
+      | then-replay-test+then-loop-state-test+in-Over w ↦
+          let r : Reached a.s.now a.head c.replay.here w.pattern_at-pattern.result = reached _ _ _ _ c.requires.fixed w.replay-test.true c.replay.invariant.1 w.pattern_at-pattern.ensures in
+          let n = next-run _ _ _ r.stands w.run_at-run.ensures in
+          let g = subst (λ (x : Stepped). GivesStep (pattern_in a.s.now w.pattern_at-pattern.result) a.room w.loop-state.state x) w.in-Over.is (w.replay_step.ensures _ n) in
+          inr (omega (arith, w.told-is), rw w.told-is (within-refused _ w.loop-state.invariant.0 g))
+      | then-replay-test+then-loop-state-test+in-Full w ↦
+          let r : Reached a.s.now a.head c.replay.here w.pattern_at-pattern.result = reached _ _ _ _ c.requires.fixed w.replay-test.true c.replay.invariant.1 w.pattern_at-pattern.ensures in
+          let n = next-run _ _ _ r.stands w.run_at-run.ensures in
+          let g = subst (λ (x : Stepped). GivesStep (pattern_in a.s.now w.pattern_at-pattern.result) a.room w.loop-state.state x) w.in-Full.is (w.replay_step.ensures _ n) in
+          inr (omega (arith, w.told-is), rw w.told-is (within-refused _ w.loop-state.invariant.0 g))
     ]
 
 pub replay-init : goal.replay-init

@@ -11,9 +11,9 @@ use Rattle.table_replay.proofs.enter.enter_run.Goals.{Joined-tail-gt0, then-tail
 -- past the tests for the last row: a new row begins
 begins : (c : Joined-tail-gt0) → (let a = c.args in enter_run a.room a.tail a.count a.index ≡ begin_run a.room a.tail a.count a.index)
 begins c = elim c.if-tail-gt0.branch [
-    then-tail-gt0+else-tail-index w ↦ simp (lt-ltb _ _ w.if-tail-gt0.true, ne_eqb _ _ w.if-tail-index.false)
+  | then-tail-gt0+else-tail-index w ↦ simp (lt-ltb _ _ w.if-tail-gt0.true, ne_eqb _ _ w.if-tail-index.false)
   | else-tail-gt0 w ↦ simp (le-ltb _ _ w.if-tail-gt0.false)
-  ]
+]
 
 pub returns-then-tail-count : goal.returns-then-tail-count
 returns-then-tail-count c =

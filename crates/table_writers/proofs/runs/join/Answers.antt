@@ -47,13 +47,13 @@ loop-k-preserved c =
     let h : o.k < length rs = omega (arith, rows-length a.rows.now) in
     let n = c.count_at-more.ensures in
     elim c.if-more-ne0.branch [
-      then-more-ne0+else-description_at-index+else-total-more w ↦
-        let some : 0 < (get_or rs o.k no_row).count = omega (arith, w.if-more-ne0.true, n) in
-        let more = o.invariant.5 ∙ join_more rs o.k h o.total a.index o.invariant.3 some (sym w.if-description_at-index.false ∙ w.description_at.ensures) in
-        (omega arith, search rules, omega arith, rw w.total-is (omega arith), rw w.total-is (omega (arith, w.if-total-more.false)), rw (w.total-is, n) more)
-    | else-more-ne0 w ↦
-        let skip = o.invariant.5 ∙ join-skip rs o.k h o.total a.index o.invariant.3 (rw n at w.if-more-ne0.false) in
-        (omega arith, search rules, omega arith, rw w.total-is o.invariant.3, rw w.total-is o.invariant.4, rw w.total-is skip)
+      | then-more-ne0+else-description_at-index+else-total-more w ↦
+          let some : 0 < (get_or rs o.k no_row).count = omega (arith, w.if-more-ne0.true, n) in
+          let more = o.invariant.5 ∙ join_more rs o.k h o.total a.index o.invariant.3 some (sym w.if-description_at-index.false ∙ w.description_at.ensures) in
+          (omega arith, search rules, omega arith, rw w.total-is (omega arith), rw w.total-is (omega (arith, w.if-total-more.false)), rw (w.total-is, n) more)
+      | else-more-ne0 w ↦
+          let skip = o.invariant.5 ∙ join-skip rs o.k h o.total a.index o.invariant.3 (rw n at w.if-more-ne0.false) in
+          (omega arith, search rules, omega arith, rw w.total-is o.invariant.3, rw w.total-is o.invariant.4, rw w.total-is skip)
     ]
 
 pub returns : goal.returns
