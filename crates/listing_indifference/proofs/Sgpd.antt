@@ -5,6 +5,7 @@ use mathlib.Core.Bool.{Bool, true, false}
 use mathlib.Core.List.{List, [], ◌∷◌, Memᴰ}
 use Prim.Native.Nat.{ℕ, suc, ◌*◌, ◌<◌, ◌≤◌}
 use native.Mathlib.Omega.{arith}
+use borrow.Author.Rules.{rules}
 use lib.Dec.{eqb}
 use Rattle.base_fields.specs.Answer.{given, choose}
 use Rattle.base_fields.specs.Number.{be_at}
@@ -46,8 +47,8 @@ module _ (t : ℕ) (used a : List ℕ) where
   -- in front of the entries only the flags are listed, and what stands behind the type where that is another
   pub head-kept : (k : ℕ) → k < 8 * first_place a → (8 ≤ k → 32 ≤ k) → ((be_at 4 a 4 ≡ t → ⊥) → k < 64) → SgpdListed t used a k → ⊥
   head-kept k l m o (places.flags u v) = omega (arith, m u)
-  head-kept k l m o (places.unused_entry u) = omega (arith, in-behind (λ n e j. Memᴰ n used → ⊥) k u)
-  head-kept k l m o (places.ignored u) = omega (arith, in-behind (λ n e j. EntryListed t (bytes_at a e) j) k u)
+  head-kept k l m o (places.unused_entry u) = let b : 8 * first_place a ≤ k = search (rules, in-behind) in omega arith
+  head-kept k l m o (places.ignored u) = let b : 8 * first_place a ≤ k = search (rules, in-behind) in omega arith
   head-kept k l m o (places.after_entries e u) = omega (arith, end_is e, end-behind a (entry_count_of a) (first_place a))
   head-kept k l m o (places.other_type n u) = omega (arith, o n)
 
