@@ -208,7 +208,7 @@ pub fn vectors(out: &mut Vectors) {
             }
         }
     };
-    let path = plain(&[9, 9]);
+    let path = track(&[9, 9]);
     add(&path);
     add(&[&path[..], &path[..]].concat());
     for fault in &faults() {
@@ -246,19 +246,19 @@ fn sample(out: &mut Vectors, random: &mut Random, most: usize, kind: &[u8; 4], t
 pub fn listing_vectors(out: &mut Vectors) {
     let random = &mut Random::new(0xa25);
     let (starred, all) = (listing::starred(), usize::MAX);
-    let film = plain(&starred);
+    let film = track(&starred);
     sample(out, random, all, b"roll", 0, &film);
     sample(out, random, all, b"prol", 0, &film);
     sample(out, random, all, b"roll", 1, &film);
     sample(out, random, all, b"roll", u32::MAX, &film);
     // Two tracks, the first without a table.
-    let tracks: Vec<u8> = [&[][..], &starred].iter().flat_map(|stbl| plain(stbl)[8..].to_vec()).collect();
+    let tracks: Vec<u8> = [&[][..], &starred].iter().flat_map(|stbl| track(stbl)[8..].to_vec()).collect();
     for track in 0..3 {
         sample(out, random, all, b"roll", track, &wrapped_plain(b"moov", &tracks));
     }
     for fault in &faults() {
         sample(out, random, all, b"roll", 0, &[&film[..], fault].concat());
-        sample(out, random, all, b"roll", 0, &plain(&[&starred[..], fault].concat()));
+        sample(out, random, all, b"roll", 0, &track(&[&starred[..], fault].concat()));
     }
     sample(out, random, all, b"roll", 0, &film[..film.len() - 1]);
     for (depth, kind) in PATH.iter().enumerate().rev() {
@@ -274,9 +274,9 @@ pub fn listing_vectors(out: &mut Vectors) {
     // A rash whose trailer is cut.
     let rash = stbl::Film { kind: *b"rash", values: vec![vec![0, 1, 0, 7, 0, 0, 0, 8, 0, 0, 0, 9]], cues: vec![stbl::Cue::Value(0)] };
     let body = (0..100).map(|_| stbl::body(random, &rash)).min_by_key(Vec::len).unwrap();
-    sample(out, random, 1, b"rash", 0, &plain(&body));
+    sample(out, random, 1, b"rash", 0, &track(&body));
     listing::short_bodies(&mut Random::new(0xa26), |random, kind, s| {
-        let film = if random.one_in(3) { whole(random, 1, s) } else { plain(s) };
+        let film = if random.one_in(3) { whole(random, 1, s) } else { track(s) };
         if film.len() <= 160 {
             sample(out, random, 2, kind, 0, &film);
         }
@@ -289,7 +289,7 @@ pub fn faults() -> [Vec<u8>; 5] {
 }
 
 /// A film of one track around the body of its stbl.
-fn plain(stbl: &[u8]) -> Vec<u8> {
+pub fn track(stbl: &[u8]) -> Vec<u8> {
     PATH.iter().rev().fold(stbl.to_vec(), |inner, kind| wrapped_plain(kind, &inner))
 }
 
