@@ -1,10 +1,11 @@
 -- Whether two decoded values are the same. The answer is `yes` with a proof that they are equal or `no` with a proof that they are not, so it
 -- does not matter how it is found: constructor by constructor and field by field. It computes; the library's tests of pairs and lists do not.
 use Rattle.std.specs.Prelude.{◌≡◌, refl, Bool, true, false, List, [], ◌∷◌, ℕ, ℤ, pos, negsuc}
-use Rattle.std.proofs.Common.{ap, arith}
+use Rattle.std.proofs.Common.{ap, subst, sym}
 use Rattle.std.proofs.Math.Bool.{Bool-discrete}
 use mathlib.Core.HLevel.{Discrete}
 use Rattle.std.proofs.Math.Decide.{ℕ_discrete}
+use Rattle.std.proofs.Math.IntN.{pos-ne-negsuc}
 use Rattle.group_entries.specs.Decoded.{Decoded, decide_decoded, Rap, Sap, Point, Rash, OutputPair, Alst}
 
 -- a value that two of its parts make up
@@ -15,21 +16,39 @@ decide_parts one other whole d k x y =
       | no p ↦ no (λ e. p (ap one e))
     ]
 
+-- what tells lists apart: that one is empty, its first part and the rest
+abbrev IsEmpty : {A : Type 0} → List A → Type 0
+IsEmpty [] = Unit {0}
+IsEmpty (x ∷ xs) = ⊥
+
+abbrev first_or : {A : Type 0} → A → List A → A
+first_or d [] = d
+first_or d (x ∷ xs) = x
+
+abbrev rest_of : {A : Type 0} → List A → List A
+rest_of [] = []
+rest_of (x ∷ xs) = xs
+
 abbrev decide_list : {A : Type 0} → Discrete A → Discrete (List A)
 decide_list d [] [] = yes refl
-decide_list d [] (y ∷ ys) = no (λ e. let z : ◌≡◌ {A = ℕ} 0 1 = cc in omega arith)
-decide_list d (x ∷ xs) [] = no (λ e. let z : ◌≡◌ {A = ℕ} 0 1 = cc in omega arith)
+decide_list d [] (y ∷ ys) = no (λ e. subst IsEmpty e tt)
+decide_list d (x ∷ xs) [] = no (λ e. subst IsEmpty (sym e) tt)
 decide_list d (x ∷ xs) (y ∷ ys) =
     elim (d x y) [
-      | yes p ↦ elim (decide_list d xs ys) [ yes q ↦ yes (λ i. p i ∷ q i) | no q ↦ no (λ e. q (cc)) ]
-      | no p ↦ no (λ e. p (cc))
+      | yes p ↦ elim (decide_list d xs ys) [ yes q ↦ yes (λ i. p i ∷ q i) | no q ↦ no (λ e. q (ap rest_of e)) ]
+      | no p ↦ no (λ e. p (ap (first_or x) e))
     ]
 
+-- the number that an integer is made of
+abbrev number_in : ℤ → ℕ
+number_in (pos n) = n
+number_in (negsuc n) = n
+
 abbrev decide_distance : Discrete ℤ
-decide_distance (pos m) (pos n) = elim (ℕ_discrete m n) [ yes e ↦ yes (ap pos e) | no e ↦ no (λ p. e (cc)) ]
-decide_distance (pos m) (negsuc n) = no (λ p. let z : ◌≡◌ {A = ℕ} 0 1 = cc in omega arith)
-decide_distance (negsuc m) (pos n) = no (λ p. let z : ◌≡◌ {A = ℕ} 0 1 = cc in omega arith)
-decide_distance (negsuc m) (negsuc n) = elim (ℕ_discrete m n) [ yes e ↦ yes (ap negsuc e) | no e ↦ no (λ p. e (cc)) ]
+decide_distance (pos m) (pos n) = elim (ℕ_discrete m n) [ yes e ↦ yes (ap pos e) | no e ↦ no (λ p. e (ap number_in p)) ]
+decide_distance (pos m) (negsuc n) = no (λ p. pos-ne-negsuc m n p)
+decide_distance (negsuc m) (pos n) = no (λ p. pos-ne-negsuc n m (sym p))
+decide_distance (negsuc m) (negsuc n) = elim (ℕ_discrete m n) [ yes e ↦ yes (ap negsuc e) | no e ↦ no (λ p. e (ap number_in p)) ]
 
 abbrev decide_two : Discrete (ℕ × ℕ)
 decide_two = decide_parts (λ p. p.0) (λ p. p.1) (λ x y e f i. (e i, f i)) ℕ_discrete ℕ_discrete

@@ -13,7 +13,7 @@ use Rattle.use_decode_start.specs.declared.Distance.TheVariants as distance
 use Rattle.use_decode_start.specs.declared.Decoded.{Decoded}
 use Rattle.use_decode_start.specs.declared.Decoded.TheVariants as decoded
 use Rattle.use_decode_start.specs.declared.SearchedFor.{SearchedFor}
-use Rattle.use_decode_start.specs.declared.SearchedFor.TheVariants as search
+use Rattle.use_decode_start.specs.declared.SearchedFor.TheVariants as searched
 
 abbrev pub told_distance : Distance → Option ℤ
 told_distance distance.Nothing = none
@@ -30,8 +30,8 @@ told_latest zero = none
 told_latest (suc k) = some k
 
 abbrev pub told_search : SearchedFor → Answer (Option ℕ)
-told_search (search.Latest b) = given (told_latest b)
-told_search (search.Refused n) = refused n
+told_search (searched.Latest b) = given (told_latest b)
+told_search (searched.Refused n) = refused n
 
 -- frames are below this
 abbrev pub frame_limit : ℕ
