@@ -19,7 +19,7 @@ breaks it. Frames are counted from 0.
 Exit status: 0 every track that was asked meets the profile; 1 one does not; 2 the film is refused or cannot be read.
 ";
 
-/// The longest header of an atom, that of a uuid with a 64-bit size.
+/// No header of an atom is longer.
 const HEADER: usize = 32;
 
 /// Why a film has no answer.
