@@ -1,6 +1,5 @@
 use mathlib.Core.Path.{◌≡◌, refl, ap, sym, ◌∙◌}
 use mathlib.Core.Option.{some}
-use Prim.Native.Nat.{◌-◌}
 use lib.ListN.{length}
 use Rattle.base_fields.specs.Answer.{Answer, and_then}
 use Rattle.atom_tree.specs.Atom.{child_at}

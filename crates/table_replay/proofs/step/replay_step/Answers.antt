@@ -15,7 +15,7 @@ use Rattle.table_replay.specs.declared.periods.Passed.{Passed}
 use Rattle.table_replay.specs.declared.periods.Passed.TheVariants as passes
 use Rattle.table_replay.proofs.Stepping.{run-refused, run_fits, step-full, step-on}
 use Rattle.table_replay.proofs.step.replay_step.Goals as goal
-use Rattle.table_replay.proofs.step.replay_step.Goals.{After-enter_run, After-pass_periods, In-Next}
+use Rattle.table_replay.proofs.step.replay_step.Goals.{After-enter_run, After-pass_periods}
 
 abbrev Next : Pattern → After-enter_run → Type 0
 Next p c = let a = c.args in NextRun p a.pattern a.state a.run

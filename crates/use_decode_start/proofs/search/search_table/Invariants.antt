@@ -1,6 +1,6 @@
 -- The loop's invariant: the search of the whole table is that of the patterns ahead, cut at the samples that are left, with the latest begin so far.
 use mathlib.Core.Path.{◌≡◌}
-use Prim.Native.Nat.{suc, ◌+◌, ◌-◌}
+use Prim.Native.Nat.{suc, ◌+◌}
 use Rattle.table_views.specs.Used.{cut, up_to_frame}
 use Rattle.table_runs.specs.Ahead.{all_in, ahead_in, WholeIn}
 use Rattle.use_decode_start.specs.Inner.{told_latest, searched_on, searched_in}
