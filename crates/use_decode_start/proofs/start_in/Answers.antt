@@ -16,7 +16,7 @@ use Rattle.use_decode_start.specs.Inner.{told_latest, told_search, searched_in}
 use Rattle.use_decode_start.specs.From.{searched_by, StartsBy}
 use Rattle.use_decode_start.proofs.From.{not_covered, told-refused, told-given, begins-early}
 use Rattle.use_decode_start.proofs.start_in.Goals as goal
-use Rattle.use_decode_start.proofs.start_in.Goals.{Else-latest-eq0}
+use Rattle.use_decode_start.proofs.start_in.Goals.{Else-covered-wanted, Else-latest-eq0}
 
 -- a group of these patterns, which cover the sample
 module _ (t wanted : ℕ) (s : List ℕ) (patterns : List Pattern) (covers : wanted < covered_by patterns) (full : Filled patterns) (g : Group) (p : g.patterns ≡ patterns) (e : entries_of s ≡ given g.entries) where
@@ -33,6 +33,17 @@ module _ (t wanted : ℕ) (s : List ℕ) (patterns : List Pattern) (covers : wan
   starts : {o : Option ℕ} → given o ≡ searched_in t s wanted (up_to_frame wanted patterns) → StartsBy (searched_by t wanted g) t wanted o
   starts f = told-given t wanted s g filled e enough (rw p f)
 
+-- past 62
+module _ (c : Else-covered-wanted) where
+  abbrev patterns : List Pattern
+  patterns = ahead_in c.args.table_s.now c.args.table (all_in c.args.table)
+
+  covers : c.args.frame.0 < covered_by patterns
+  covers = omega (arith, c.if-covered-wanted.false, c.requires.1)
+
+  full : Filled patterns
+  full = filled-ahead c.args.table_s.now c.args.table (all_in c.args.table) c.requires.0
+
 -- the latest begin of a sample, or 0
 latest : (b : ℕ) {a : Answer (Option ℕ)} (o : Option ℕ) → told_latest b ≡ o → given (told_latest b) ≡ a → given o ≡ a
 latest b o f e = ap (λ (y : Option ℕ). given y) (sym f) ∙ e
@@ -45,20 +56,16 @@ returns-then-covered-wanted c =
 pub returns-in-Refused : goal.returns-in-Refused
 returns-in-Refused c =
     let a = c.args in
-    let patterns = ahead_in a.table_s.now a.table (all_in a.table) in
-    let covers : a.frame.0 < covered_by patterns = omega (arith, c.if-covered-wanted.false, c.requires.1) in
-    let full : Filled patterns = filled-ahead a.table_s.now a.table (all_in a.table) c.requires.0 in
-    record { gives = λ g p e. refuses a.grouping_type a.frame.0 a.s.now patterns covers full g p e (sym (ap told_search c.in-Refused.is) ∙ c.search_table.ensures) }
+    let past = (goal.at.returns-in-Refused c).Else-covered-wanted in
+    record { gives = λ g p e. refuses a.grouping_type a.frame.0 a.s.now (patterns past) (covers past) (full past) g p e (sym (ap told_search c.in-Refused.is) ∙ c.search_table.ensures) }
 
 pub returns-then-latest-eq0 : goal.returns-then-latest-eq0
 returns-then-latest-eq0 c =
     let a = c.args in
-    let patterns = ahead_in a.table_s.now a.table (all_in a.table) in
-    let covers : a.frame.0 < covered_by patterns = omega (arith, c.if-covered-wanted.false, c.requires.1) in
-    let full : Filled patterns = filled-ahead a.table_s.now a.table (all_in a.table) c.requires.0 in
+    let past = (goal.at.returns-then-latest-eq0 c).Else-covered-wanted in
     record {
       gives = λ g p e.
-          starts a.grouping_type a.frame.0 a.s.now patterns covers full g p e
+          starts a.grouping_type a.frame.0 a.s.now (patterns past) (covers past) (full past) g p e
           (latest c.in-Latest.b none (ap told_latest c.if-latest-eq0.true) (sym (ap told_search c.in-Latest.is) ∙ c.search_table.ensures));
     }
 
