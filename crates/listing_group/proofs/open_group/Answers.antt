@@ -34,9 +34,9 @@ module _ (c : In-Table) where
 -- where its rows are counted
 module _ (c : In-Count) where
   counted :
-    let a = c.args in
-    let s = opening.ts a.body.now a.grouping_type a.records c.in-Sources.f (rw c.in-Sources.is at c.find_sources.ensures) in
-    given c.in-Count.n ≡ and_then (table_from s c.in-Table.t (room_of a.records)) (λ x. given (count_of a.records x.rows (ahead_in s c.in-Table.t (all_in c.in-Table.t))))
+      let a = c.args in
+      let s = opening.ts a.body.now a.grouping_type a.records c.in-Sources.f (rw c.in-Sources.is at c.find_sources.ensures) in
+      given c.in-Count.n ≡ and_then (table_from s c.in-Table.t (room_of a.records)) (λ x. given (count_of a.records x.rows (ahead_in s c.in-Table.t (all_in c.in-Table.t))))
   counted = sym (ap told_counted c.in-Count.is) ∙ (rw c.bytes_at-table_s.ensures.bytes at c.count_table.ensures)
 
 pub returns-in-Refused : goal.returns-in-Refused
