@@ -7,9 +7,12 @@ ghost use Rattle.atom_tree.specs.Told.{header_of, told_child};
 ghost use Rattle.atom_path.specs.Path.{end_in, atom_at, body_span, present_at, at_level};
 ghost use Rattle.atom_path.specs.Told.{child_of, span_of, told_body, level_of, levels_left, sought_in, LevelGives};
 
-use super::{Container, FoundBody};
+use base_fields::refusal::Refusal;
+use atom_tree::BodyAt;
+use atom_tree::Child;
+use super::{Container};
 use atom_tree::{
-    AtomHeader, NextChild, ParentEnd, ReadHeader, TotalSize, next_child, read_atom_header,
+    AtomHeader, next_child, read_atom_header,
 };
 
 // Types of containers, four bytes as one number.
@@ -72,30 +75,30 @@ fn top_end(h: AtomHeader, at: u64, end: u64) -> u64
 {
     let size = h.total_size;
     match size {
-        TotalSize::Bytes(n) => at + n,
-        TotalSize::Open => end,
+        Some(n) => at + n,
+        None => end,
     }
 }
 
-fn top_atom(s: &[u8], end: u64, at: u64) -> NextChild
+fn top_atom(s: &[u8], end: u64, at: u64) -> Result<Option<Child>, Refusal>
     ensures { told_child result ≡ atom_at true s.now end at }
 {
     let read = read_atom_header(s, at);
     match read {
-        ReadHeader::Header(h) => NextChild::Child(h, top_end(h, at, end)),
-        ReadHeader::Nothing => NextChild::Done,
-        ReadHeader::Refused(n) => NextChild::Refused(n),
+        Ok(Some(h)) => Ok(Some(Child { head: h, next: top_end(h, at, end) })),
+        Ok(None) => Ok(None),
+        Err(n) => Err(n),
     }
 }
 
 // The atom at a place of a level, and the place of the next one.
-fn next_atom(s: &[u8], top: bool, end: u64, at: u64) -> NextChild
+fn next_atom(s: &[u8], top: bool, end: u64, at: u64) -> Result<Option<Child>, Refusal>
     ensures { told_child result ≡ atom_at top s.now end at }
 {
     if top {
         top_atom(s, end, at)
     } else {
-        next_child(s, at, ParentEnd::At(end))
+        next_child(s, at, Some(end))
     }
 }
 
@@ -133,33 +136,33 @@ fn search_behind(sought: Sought, fourcc: u32, h: AtomHeader, next: u64) -> Sough
 }
 
 // The first moov is 11 where it passes the given bytes.
-fn present_body(s: &[u8], top: bool, body: Container) -> FoundBody
+fn present_body(s: &[u8], top: bool, body: Container) -> Result<BodyAt, Refusal>
     ensures { told_body result ≡ present_at top s.now (span_of body) }
 {
     if top {
         let n = s.len() as u64;
         if n < body.size {
-            return FoundBody::Refused(11);
+            return Err(Refusal::BodyCut);
         }
         if n - body.size < body.place {
-            return FoundBody::Refused(11);
+            return Err(Refusal::BodyCut);
         }
     }
-    FoundBody::Body(body)
+    Ok(body)
 }
 
 // Behind the last atom of a level.
-fn found_in(s: &[u8], level: PathLevel, sought: Sought) -> FoundBody
+fn found_in(s: &[u8], level: PathLevel, sought: Sought) -> Result<BodyAt, Refusal>
     ensures { told_body result ≡ and_then (sought_in sought level.missing []) (present_at level.top s.now) }
 {
     match sought {
-        Sought::Ahead(_) => FoundBody::Refused(level.missing),
+        Sought::Ahead(_) => Err(level.missing),
         Sought::Found(body) => present_body(s, level.top, body),
     }
 }
 
 // Walks a level to its end, and gives the body of the atom that is looked for.
-fn find_in_level(s: &[u8], level: PathLevel, parent: Container) -> FoundBody
+fn find_in_level(s: &[u8], level: PathLevel, parent: Container) -> Result<BodyAt, Refusal>
     requires { (length s.now ≤ input_limit) × (parent.place + parent.size ≤ length s.now) × (level.top ≡ true → parent.place + parent.size ≡ length s.now) }
     ensures { told_body result ≡ at_level s.now (level_of level) (span_of parent) }
 {
@@ -171,18 +174,18 @@ fn find_in_level(s: &[u8], level: PathLevel, parent: Container) -> FoundBody
     loop {
         let atom = next_atom(s, top, end, at);
         match atom {
-            NextChild::Child(h, next) => {
+            Ok(Some(Child { head: h, next })) => {
                 sought = search_behind(sought, fourcc, h, next);
                 at = next;
             }
-            NextChild::Done => return found_in(s, level, sought),
-            NextChild::Refused(n) => return FoundBody::Refused(n),
+            Ok(None) => return found_in(s, level, sought),
+            Err(n) => return Err(n),
         }
     }
 }
 
 // The level with so many levels to go, itself among them, in the container at a place.
-pub fn search_level(s: &[u8], track: u32, levels: u32, place: u64, size: u64) -> FoundBody
+pub fn search_level(s: &[u8], track: u32, levels: u32, place: u64, size: u64) -> Result<BodyAt, Refusal>
     requires { (length s.now ≤ input_limit) × (0 < levels) × (levels ≤ 5) × (place + size ≤ length s.now) × (levels ≡ 5 → place + size ≡ length s.now) }
     ensures { LevelGives s.now levels track (record { place = place; size = size }) result }
 {

@@ -8,6 +8,8 @@ ghost use Rattle.base_fields.specs.Answer.{input_limit};
 ghost use Rattle.atom_path.specs.Path.{descend, stbl_at};
 ghost use Rattle.atom_path.specs.Told.{levels_left, told_body};
 
+use base_fields::refusal::Refusal;
+use atom_tree::BodyAt;
 use base_fields::INPUT_LIMIT;
 use level::search_level;
 
@@ -21,14 +23,8 @@ pub struct Container {
     pub size: u64,
 }
 
-#[derive(Clone, Copy)]
-pub enum FoundBody {
-    Body(Container),
-    Refused(u32),
-}
-
 // Goes down the levels that are left, each within the container above it; the last one gives the answer. What stands in a frame of this recursion is kept small.
-fn search_below(s: &[u8], track: u32, levels: u32, place: u64, size: u64) -> FoundBody
+fn search_below(s: &[u8], track: u32, levels: u32, place: u64, size: u64) -> Result<BodyAt, Refusal>
     requires { (length s.now ≤ input_limit) × (0 < levels) × (levels ≤ 5) × (place + size ≤ length s.now) × (levels ≡ 5 → place + size ≡ length s.now) }
     ensures { told_body result ≡ descend s.now (levels_left levels track) (record { place = place; size = size }) }
 {
@@ -37,17 +33,17 @@ fn search_below(s: &[u8], track: u32, levels: u32, place: u64, size: u64) -> Fou
         return found;
     }
     match found {
-        FoundBody::Body(inner) => search_below(s, track, levels - 1, inner.place, inner.size),
-        FoundBody::Refused(n) => FoundBody::Refused(n),
+        Ok(inner) => search_below(s, track, levels - 1, inner.place, inner.size),
+        Err(n) => Err(n),
     }
 }
 
 // The body of the stbl of a track, counted from 0.
-pub fn find_stbl(s: &[u8], track: u32) -> FoundBody
+pub fn find_stbl(s: &[u8], track: u32) -> Result<BodyAt, Refusal>
     ensures { told_body result ≡ stbl_at s.now track }
 {
     if INPUT_LIMIT < s.len() {
-        return FoundBody::Refused(55);
+        return Err(Refusal::InputTooLong);
     }
     search_below(s, track, LEVELS, 0, s.len() as u64)
 }

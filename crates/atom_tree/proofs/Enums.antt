@@ -1,22 +1,19 @@
 -- What is left of an answer when a `let .. else` has taken its value away.
 use Rattle.std.proofs.Common.{◌≡◌, ℕ, refl}
+use Rattle.std.specs.Prelude.{Result, Ok, Err, Option, Some, None}
 use Rattle.base_fields.specs.Answer.{Answer, and_then}
-use Rattle.base_fields.specs.Span.{Span}
-use Rattle.atom_tree.specs.Told.{told_payload}
-use Rattle.atom_tree.specs.declared.AtomHeader.{AtomHeader}
-use Rattle.atom_tree.specs.declared.ReadHeader.{ReadHeader}
-use Rattle.atom_tree.specs.declared.ReadHeader.TheVariants as read
-use Rattle.atom_tree.specs.declared.ReadPayload.{ReadPayload}
-use Rattle.atom_tree.specs.declared.ReadPayload.TheVariants as payload
+use Rattle.base_fields.specs.Refusal.{told_or_none}
+use Rattle.base_fields.specs.declared.refusal.Refusal.{Refusal}
 
--- neither a header nor a refusal
-pub is-nothing : (r : ReadHeader) → ((h : AtomHeader) → r ≡ read.Header h → ⊥) → ((n : ℕ) → r ≡ read.Refused n → ⊥) → r ≡ read.Nothing
-is-nothing (read.Header h) a b = absurd (a h refl)
-is-nothing read.Nothing a b = refl
-is-nothing (read.Refused n) a b = absurd (b n refl)
+module _ {A : Type 0} where
+  -- neither a value nor a refusal
+  pub is-nothing : (r : Result (Option A) Refusal) → ((a : A) → r ≡ Ok (Some a) → ⊥) → ((e : Refusal) → r ≡ Err e → ⊥) → r ≡ Ok None
+  is-nothing (Ok (Some a)) f g = absurd (f a refl)
+  is-nothing (Ok None) f g = refl
+  is-nothing (Err e) f g = absurd (g e refl)
 
--- no body: what follows does not matter
-pub no_body : (r : ReadPayload) (f : Span → Answer Span) → ((place size : ℕ) → r ≡ payload.Body place size → ⊥) → told_payload r ≡ and_then (told_payload r) f
-no_body (payload.Body place size) f a = absurd (a place size refl)
-no_body payload.Nothing f a = refl
-no_body (payload.Refused n) f a = refl
+  -- no value: what follows does not matter
+  pub no_value : {B : Type 0} (t : A → B) (r : Result (Option A) Refusal) (f : B → Answer B) → ((a : A) → r ≡ Ok (Some a) → ⊥) → told_or_none t r ≡ and_then (told_or_none t r) f
+  no_value t (Ok (Some a)) f g = absurd (g a refl)
+  no_value t (Ok None) f g = refl
+  no_value t (Err e) f g = refl

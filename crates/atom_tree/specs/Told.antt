@@ -1,44 +1,42 @@
--- Document 01's answer for each case of the enums of src/.
+-- Document 01's answer for what src/ answers with.
+use Rattle.std.specs.Prelude.{ℕ, Result, Option, Some, None}
 use Rattle.std.proofs.Math.Option.{none, some}
-use Rattle.base_fields.specs.Answer as answer
-use Rattle.base_fields.specs.Answer.{Answer, given, refused}
-use Rattle.atom_tree.specs.Atom.{Known, Header, Child}
+use Rattle.base_fields.specs.Answer.{Answer}
+use Rattle.base_fields.specs.Refusal.{told_or_none}
+use Rattle.base_fields.specs.declared.refusal.Refusal.{Refusal}
+use Rattle.atom_tree.specs.Atom as atom
+use Rattle.atom_tree.specs.Atom.{Known, Header}
 use Rattle.base_fields.specs.Span.{Span}
 use Rattle.atom_tree.specs.declared.AtomHeader.{AtomHeader}
-use Rattle.atom_tree.specs.declared.TotalSize.{TotalSize}
-use Rattle.atom_tree.specs.declared.TotalSize.TheVariants as size
-use Rattle.atom_tree.specs.declared.ParentEnd.{ParentEnd}
-use Rattle.atom_tree.specs.declared.ParentEnd.TheVariants as end
-use Rattle.atom_tree.specs.declared.ReadHeader.{ReadHeader}
-use Rattle.atom_tree.specs.declared.ReadHeader.TheVariants as read
-use Rattle.atom_tree.specs.declared.NextChild.{NextChild}
-use Rattle.atom_tree.specs.declared.NextChild.TheVariants as walked
-use Rattle.atom_tree.specs.declared.ReadPayload.{ReadPayload}
-use Rattle.atom_tree.specs.declared.ReadPayload.TheVariants as payload
+use Rattle.atom_tree.specs.declared.Child.{Child}
+use Rattle.atom_tree.specs.declared.BodyAt.{BodyAt}
 
-abbrev pub size_of : TotalSize → Known
-size_of size.Open = none
-size_of (size.Bytes n) = some n
+-- a number that may be absent
+abbrev pub known : Option ℕ → Known
+known None = none
+known (Some n) = some n
 
-abbrev pub parent_end : ParentEnd → Known
-parent_end end.Unknown = none
-parent_end (end.At n) = some n
+abbrev pub size_of : Option ℕ → Known
+size_of = known
+
+abbrev pub parent_end : Option ℕ → Known
+parent_end = known
 
 abbrev pub header_of : AtomHeader → Header
 header_of h =
     record { type = h.fourcc; size = size_of h.total_size; header_length = h.header_len; body = h.payload_offset }
 
-abbrev pub told_header : ReadHeader → Answer Header
-told_header (read.Header h) = given (header_of h)
-told_header read.Nothing = answer.none
-told_header (read.Refused n) = refused n
+abbrev pub child_of : Child → atom.Child
+child_of c = record { head = header_of c.head; next = c.next }
 
-abbrev pub told_child : NextChild → Answer Child
-told_child (walked.Child h next) = given (record { head = header_of h; next = next })
-told_child walked.Done = answer.none
-told_child (walked.Refused n) = refused n
+abbrev pub span_of : BodyAt → Span
+span_of b = record { place = b.place; size = b.size }
 
-abbrev pub told_payload : ReadPayload → Answer Span
-told_payload (payload.Body place size) = given (record { place = place; size = size })
-told_payload payload.Nothing = answer.none
-told_payload (payload.Refused n) = refused n
+abbrev pub told_header : Result (Option AtomHeader) Refusal → Answer Header
+told_header = told_or_none header_of
+
+abbrev pub told_child : Result (Option Child) Refusal → Answer atom.Child
+told_child = told_or_none child_of
+
+abbrev pub told_payload : Result (Option BodyAt) Refusal → Answer Span
+told_payload = told_or_none span_of

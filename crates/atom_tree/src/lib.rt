@@ -9,50 +9,28 @@ pub use body::{read_payload, read_payload_bounded};
 pub use children::next_child;
 pub use header::read_atom_header;
 
-// The total size of an atom, header included; Open: it runs to the end of its parent or of the file.
-#[derive(Clone, Copy)]
-pub enum TotalSize {
-    Open,
-    Bytes(u64),
-}
-
 #[derive(Clone, Copy)]
 pub struct AtomHeader {
     // The four type bytes as a big-endian number.
     pub fourcc: u32,
-    pub total_size: TotalSize,
+    // Header included; none: it runs to the end of its parent or of the file.
+    pub total_size: Option<u64>,
     // 8 or 16.
     pub header_len: u64,
     // Where the body begins.
     pub payload_offset: u64,
 }
 
+// A child's header, and the place of the next child.
 #[derive(Clone, Copy)]
-pub enum ReadHeader {
-    Header(AtomHeader),
-    Nothing,
-    Refused(u32),
+pub struct Child {
+    pub head: AtomHeader,
+    pub next: u64,
 }
 
-// Where a container's payload ends.
+// The place and the length of a body.
 #[derive(Clone, Copy)]
-pub enum ParentEnd {
-    Unknown,
-    At(u64),
-}
-
-#[derive(Clone, Copy)]
-pub enum NextChild {
-    // The child's header and the place of the next child.
-    Child(AtomHeader, u64),
-    Done,
-    Refused(u32),
-}
-
-#[derive(Clone, Copy)]
-pub enum ReadPayload {
-    // The place and the length of the body.
-    Body(u64, u64),
-    Nothing,
-    Refused(u32),
+pub struct BodyAt {
+    pub place: u64,
+    pub size: u64,
 }

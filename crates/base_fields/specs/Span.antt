@@ -1,10 +1,15 @@
 -- A part of a list of bytes: where it begins, and how many bytes there are.
 use Rattle.std.specs.Prelude.{ℕ, ◌+◌, ◌≡◌, List, [], take, drop}
 use Rattle.base_fields.specs.Answer.{Answer, given, none, refused}
+use Rattle.base_fields.specs.declared.Part.{Part}
 
 pub record Span : Type 0 where
   pub place : ℕ
   pub size : ℕ
+
+-- where a part of src/ stands
+abbrev pub span_of : Part → Span
+span_of p = record { place = p.place; size = p.size }
 
 abbrev pub bytes_at : List ℕ → Span → List ℕ
 bytes_at s e = take e.size (drop e.place s)

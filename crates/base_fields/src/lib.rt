@@ -2,6 +2,7 @@
 #![tactic(auto)]
 
 pub mod fourcc;
+pub mod refusal;
 
 ghost use Rattle.std.specs.Prelude.{◌≡◌, ◌+◌, ◌*◌, ◌≤◌, ◌<◌, ◌^◌, length};
 ghost use Rattle.base_fields.specs.Answer.{input_limit, given};
@@ -11,11 +12,11 @@ ghost use Rattle.base_fields.specs.Span.{GivesPart};
 // The longest input that is taken, in bytes.
 pub const INPUT_LIMIT: usize = 67108864;
 
-// How many records of two numbers each were written in front of a lent run.
+// Where a part of a slice stands: its place and its length.
 #[derive(Clone, Copy)]
-pub enum FilledRun {
-    Records(u32),
-    Refused(u32),
+pub struct Part {
+    pub place: usize,
+    pub size: usize,
 }
 
 // A part of a slice, by its place and its length.

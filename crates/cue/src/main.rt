@@ -3,7 +3,6 @@
 #![tactic(auto)]
 
 use cue_print::{print_listing, print_refused, read_full};
-use listing_cue::CueListing;
 use std::io;
 
 // Four type bytes, and as much of a body as is held.
@@ -18,11 +17,11 @@ fn print_cue(
     listing: &mut [u8],
 ) -> io::Result<()> {
     match listing_cue::cue_listing(body, grouping_type, rows, listing) {
-        CueListing::Listing(lengths) => {
+        Ok(lengths) => {
             let end = lengths.listing;
             print_listing(rt, &listing[..end])
         }
-        CueListing::Refused(code) => print_refused(rt, code),
+        Err(code) => print_refused(rt, code),
     }
 }
 

@@ -1,34 +1,27 @@
-// What the program's arguments say.
-#[derive(Clone, Copy)]
-pub enum ReadTrack {
-    Track(u32),
-    Nothing,
-}
-
 const LARGEST: u64 = 4294967295;
 
 // A number in decimal digits that fits 32 bits.
-pub fn read_track(digits: &[u8]) -> ReadTrack {
+pub fn read_track(digits: &[u8]) -> Option<u32> {
     if digits.len() == 0 {
-        return ReadTrack::Nothing;
+        return None;
     }
     let mut value: u64 = 0;
     let mut i = 0;
     while i < digits.len() {
         let digit = digits[i];
         if digit < b'0' {
-            return ReadTrack::Nothing;
+            return None;
         }
         if b'9' < digit {
-            return ReadTrack::Nothing;
+            return None;
         }
         value = value * 10 + (digit - b'0') as u64;
         if LARGEST < value {
-            return ReadTrack::Nothing;
+            return None;
         }
         i = i + 1;
     }
-    ReadTrack::Track(value as u32)
+    Some(value as u32)
 }
 
 // The argument is `words`.

@@ -10,7 +10,6 @@ ghost use Rattle.std.specs.Prelude.{◌≡◌, ◌≤◌, length};
 use arguments::{ReadTrack, is_words, read_track};
 use cue_print::{print_listing, print_refused, read_full};
 use cue_words::words::print_words;
-use listing_cue::CueListing;
 use std::env::{Env, FillError};
 use std::fs::File;
 use std::io;
@@ -37,11 +36,11 @@ fn print_cue(
     listing: &mut [u8],
 ) -> io::Result<()> {
     match listing_file::file_cue_listing(film, track, grouping_type, rows, listing) {
-        CueListing::Listing(lengths) => {
+        Ok(lengths) => {
             let end = lengths.listing;
             print_told(rt, &listing[..end], in_words)
         }
-        CueListing::Refused(code) => print_refused(rt, code),
+        Err(code) => print_refused(rt, code),
     }
 }
 

@@ -3,7 +3,7 @@ ghost use Rattle.std.specs.Prelude.{◌≡◌};
 ghost use Rattle.atom_tree.specs.Told.{header_of};
 ghost use Rattle.cue_film.specs.TopAtoms.{told_top, placed_at, top_at};
 
-use atom_tree::{AtomHeader, ReadHeader, TotalSize, read_atom_header};
+use atom_tree::{AtomHeader, read_atom_header};
 use std::fs::File;
 use std::os::unix::fs::FileExt;
 
@@ -46,13 +46,13 @@ fn placed(h: AtomHeader, at: u64) -> TopAtom
 {
     let size = h.total_size;
     match size {
-        TotalSize::Bytes(n) => {
+        Some(n) => {
             if LARGEST - at < n {
                 return TopAtom::Refused(5);
             }
             TopAtom::Sized(h.fourcc, n)
         }
-        TotalSize::Open => TopAtom::Open(h.fourcc),
+        None => TopAtom::Open(h.fourcc),
     }
 }
 
@@ -62,9 +62,9 @@ fn top_atom(window: &[u8], at: u64) -> TopAtom
 {
     let read = read_atom_header(window, 0);
     match read {
-        ReadHeader::Header(h) => placed(h, at),
-        ReadHeader::Nothing => TopAtom::Done,
-        ReadHeader::Refused(n) => TopAtom::Refused(n),
+        Ok(Some(h)) => placed(h, at),
+        Ok(None) => TopAtom::Done,
+        Err(n) => TopAtom::Refused(n),
     }
 }
 

@@ -1,15 +1,8 @@
 // A cue listing in words, decoded from its own bytes (document 01, part 8). Each function is total: on any bytes it tells what it can and then
 // that the listing is cut.
-use crate::numbers::{ReadNumber, read_number};
+use crate::numbers::{read_number};
 use group_entries::{EntryLayout, layout_of};
 use std::io;
-
-// What was told of a listing ends at a place, or the listing is cut.
-#[derive(Clone, Copy)]
-enum Told {
-    To(usize),
-    Cut,
-}
 
 fn print_text(rt: &impl Print, text: &[u8]) -> io::Result<()> {
     rt.write_all(text)
@@ -30,12 +23,12 @@ fn end_line(rt: &impl Print) -> io::Result<()> {
 // A number of the listing behind its name.
 fn print_number(rt: &impl Print, listing: &[u8], at: usize, name: &[u8]) -> io::Result<Told> {
     match read_number(listing, at) {
-        ReadNumber::Number(n, next) => {
+        Some((n, next)) => {
             print_text(rt, name)?;
             print_plain(rt, n)?;
-            Ok(Told::To(next))
+            Ok(Some(next))
         }
-        ReadNumber::Nothing => Ok(Told::Cut),
+        None => Ok(None),
     }
 }
 
@@ -48,15 +41,15 @@ fn print_bit(
     zero: &[u8],
 ) -> io::Result<Told> {
     match read_number(listing, at) {
-        ReadNumber::Number(n, next) => {
+        Some((n, next)) => {
             if n == 0 {
                 print_text(rt, zero)?;
             } else {
                 print_text(rt, one)?;
             }
-            Ok(Told::To(next))
+            Ok(Some(next))
         }
-        ReadNumber::Nothing => Ok(Told::Cut),
+        None => Ok(None),
     }
 }
 
@@ -72,14 +65,14 @@ fn print_numbers(
     let mut left = count;
     while 0 < left {
         match print_number(rt, listing, at, name)? {
-            Told::To(next) => {
+            Some(next) => {
                 at = next;
                 left = left - 1;
             }
-            Told::Cut => return Ok(Told::Cut),
+            None => return Ok(None),
         }
     }
-    Ok(Told::To(at))
+    Ok(Some(at))
 }
 
 // A pair of numbers behind their names.
@@ -91,8 +84,8 @@ fn print_pair(
     second: &[u8],
 ) -> io::Result<Told> {
     match print_number(rt, listing, at, first)? {
-        Told::To(next) => print_number(rt, listing, next, second),
-        Told::Cut => Ok(Told::Cut),
+        Some(next) => print_number(rt, listing, next, second),
+        None => Ok(None),
     }
 }
 
@@ -109,20 +102,20 @@ fn print_pairs(
     let mut left = count;
     while 0 < left {
         match print_pair(rt, listing, at, first, second)? {
-            Told::To(next) => {
+            Some(next) => {
                 at = next;
                 left = left - 1;
             }
-            Told::Cut => return Ok(Told::Cut),
+            None => return Ok(None),
         }
     }
-    Ok(Told::To(at))
+    Ok(Some(at))
 }
 
 // The distance plus 32,768 is stored.
 fn print_roll(rt: &impl Print, listing: &[u8], at: usize) -> io::Result<Told> {
     match read_number(listing, at) {
-        ReadNumber::Number(n, next) => {
+        Some((n, next)) => {
             if n < 32768 {
                 print_text(rt, b"distance -")?;
                 print_plain(rt, 32768 - n)?;
@@ -130,9 +123,9 @@ fn print_roll(rt: &impl Print, listing: &[u8], at: usize) -> io::Result<Told> {
                 print_text(rt, b"distance ")?;
                 print_plain(rt, n - 32768)?;
             }
-            Ok(Told::To(next))
+            Ok(Some(next))
         }
-        ReadNumber::Nothing => Ok(Told::Cut),
+        None => Ok(None),
     }
 }
 
@@ -144,8 +137,8 @@ fn print_rap(rt: &impl Print, listing: &[u8], at: usize) -> io::Result<Told> {
         b"leading samples known",
         b"leading samples not known",
     )? {
-        Told::To(next) => print_number(rt, listing, next, b", "),
-        Told::Cut => Ok(Told::Cut),
+        Some(next) => print_number(rt, listing, next, b", "),
+        None => Ok(None),
     }
 }
 
@@ -161,62 +154,62 @@ fn print_tele(rt: &impl Print, listing: &[u8], at: usize) -> io::Result<Told> {
 
 fn print_sap(rt: &impl Print, listing: &[u8], at: usize) -> io::Result<Told> {
     match print_bit(rt, listing, at, b"dependent", b"not dependent")? {
-        Told::To(next) => print_number(rt, listing, next, b", type "),
-        Told::Cut => Ok(Told::Cut),
+        Some(next) => print_number(rt, listing, next, b", type "),
+        None => Ok(None),
     }
 }
 
 // What follows the points of a rash.
 fn print_rates(rt: &impl Print, listing: &[u8], at: usize) -> io::Result<Told> {
     match print_pair(rt, listing, at, b", maximum ", b", minimum ")? {
-        Told::To(next) => print_number(rt, listing, next, b", priority "),
-        Told::Cut => Ok(Told::Cut),
+        Some(next) => print_number(rt, listing, next, b", priority "),
+        None => Ok(None),
     }
 }
 
 fn print_rash(rt: &impl Print, listing: &[u8], at: usize) -> io::Result<Told> {
     match read_number(listing, at) {
-        ReadNumber::Number(points, next) => {
+        Some((points, next)) => {
             print_text(rt, b"points ")?;
             print_plain(rt, points)?;
             match print_pairs(rt, listing, next, points, b", bitrate ", b" share ")? {
-                Told::To(rates) => print_rates(rt, listing, rates),
-                Told::Cut => Ok(Told::Cut),
+                Some(rates) => print_rates(rt, listing, rates),
+                None => Ok(None),
             }
         }
-        ReadNumber::Nothing => Ok(Told::Cut),
+        None => Ok(None),
     }
 }
 
 // The pairs of an alst, behind their count.
 fn print_pieces(rt: &impl Print, listing: &[u8], at: usize) -> io::Result<Told> {
     match read_number(listing, at) {
-        ReadNumber::Number(pieces, next) => {
+        Some((pieces, next)) => {
             print_pairs(rt, listing, next, pieces, b", output ", b" of ")
         }
-        ReadNumber::Nothing => Ok(Told::Cut),
+        None => Ok(None),
     }
 }
 
 // What follows the roll count of an alst.
 fn print_offsets(rt: &impl Print, listing: &[u8], at: usize, rolls: u64) -> io::Result<Told> {
     match print_number(rt, listing, at, b", first output ")? {
-        Told::To(offsets) => match print_numbers(rt, listing, offsets, rolls, b", offset ")? {
-            Told::To(pieces) => print_pieces(rt, listing, pieces),
-            Told::Cut => Ok(Told::Cut),
+        Some(offsets) => match print_numbers(rt, listing, offsets, rolls, b", offset ")? {
+            Some(pieces) => print_pieces(rt, listing, pieces),
+            None => Ok(None),
         },
-        Told::Cut => Ok(Told::Cut),
+        None => Ok(None),
     }
 }
 
 fn print_alst(rt: &impl Print, listing: &[u8], at: usize) -> io::Result<Told> {
     match read_number(listing, at) {
-        ReadNumber::Number(rolls, next) => {
+        Some((rolls, next)) => {
             print_text(rt, b"roll count ")?;
             print_plain(rt, rolls)?;
             print_offsets(rt, listing, next, rolls)
         }
-        ReadNumber::Nothing => Ok(Told::Cut),
+        None => Ok(None),
     }
 }
 
@@ -226,24 +219,24 @@ fn print_bytes(rt: &impl Print, listing: &[u8], at: usize, count: u64) -> io::Re
     let mut left = count;
     while 0 < left {
         if listing.len() <= at {
-            return Ok(Told::Cut);
+            return Ok(None);
         }
         let byte = listing[at];
         print!(rt; "{byte:02x}")?;
         at = at + 1;
         left = left - 1;
     }
-    Ok(Told::To(at))
+    Ok(Some(at))
 }
 
 fn print_raw(rt: &impl Print, listing: &[u8], at: usize) -> io::Result<Told> {
     match read_number(listing, at) {
-        ReadNumber::Number(bytes, next) => {
+        Some((bytes, next)) => {
             print_plain(rt, bytes)?;
             print_text(rt, b" bytes ")?;
             print_bytes(rt, listing, next, bytes)
         }
-        ReadNumber::Nothing => Ok(Told::Cut),
+        None => Ok(None),
     }
 }
 
@@ -268,19 +261,19 @@ fn print_meaning(
     at: usize,
 ) -> io::Result<Told> {
     match read_number(listing, at) {
-        ReadNumber::Number(kind, next) => match kind {
+        Some((kind, next)) => match kind {
             0 => {
                 print_text(rt, b"no group")?;
-                Ok(Told::To(next))
+                Ok(Some(next))
             }
             1 => {
                 print_text(rt, b"an index past the entries")?;
-                Ok(Told::To(next))
+                Ok(Some(next))
             }
             2 => print_value(rt, listing, grouping_type, next),
-            _ => Ok(Told::Cut),
+            _ => Ok(None),
         },
-        ReadNumber::Nothing => Ok(Told::Cut),
+        None => Ok(None),
     }
 }
 
@@ -315,7 +308,7 @@ fn print_stretches(
     let mut first: u64 = 0;
     while first < samples {
         match read_number(listing, at) {
-            ReadNumber::Number(n, next) => {
+            Some((n, next)) => {
                 if n == 0 {
                     return print_cut(rt);
                 }
@@ -324,14 +317,14 @@ fn print_stretches(
                 }
                 let behind = first + n;
                 match print_stretch(rt, listing, grouping_type, next, first, behind - 1)? {
-                    Told::To(end) => {
+                    Some(end) => {
                         at = end;
                         first = behind;
                     }
-                    Told::Cut => return print_cut(rt),
+                    None => return print_cut(rt),
                 }
             }
-            ReadNumber::Nothing => return print_cut(rt),
+            None => return print_cut(rt),
         }
     }
     Ok(())
@@ -344,7 +337,7 @@ pub fn print_words(rt: &impl Print, listing: &[u8]) -> io::Result<()> {
     }
     let grouping_type = base_fields::read_u32(listing, 0);
     match read_number(listing, 4) {
-        ReadNumber::Number(samples, next) => {
+        Some((samples, next)) => {
             print_text(rt, b"type ")?;
             print_text(rt, &listing[..4])?;
             print_text(rt, b", covered samples ")?;
@@ -352,6 +345,6 @@ pub fn print_words(rt: &impl Print, listing: &[u8]) -> io::Result<()> {
             end_line(rt)?;
             print_stretches(rt, listing, grouping_type, next, samples)
         }
-        ReadNumber::Nothing => print_cut(rt),
+        None => print_cut(rt),
     }
 }

@@ -8,43 +8,45 @@ ghost use Rattle.atom_tree.specs.Told.{size_of, parent_end, told_header, told_ch
 ghost use Rattle.film_status.specs.Status.{Returns, body_numbers};
 ghost use Rattle.film_atoms.specs.Atoms.{absent, or_zero, end_from, header_numbers, child_numbers};
 
-use atom_tree::{NextChild, ParentEnd, ReadHeader, ReadPayload, TotalSize};
+use base_fields::refusal::Refusal;
+use atom_tree::BodyAt;
+use atom_tree::Child;
 use film_status::NONE;
 
-fn open_flag(size: TotalSize) -> u64
+fn open_flag(size: Option<u64>) -> u64
     ensures { result ≡ absent (size_of size) }
 {
     match size {
-        TotalSize::Open => 1,
-        TotalSize::Bytes(_) => 0,
+        None => 1,
+        Some(_) => 0,
     }
 }
 
-fn size_or_zero(size: TotalSize) -> u64
+fn size_or_zero(size: Option<u64>) -> u64
     ensures { result ≡ or_zero (size_of size) }
 {
     match size {
-        TotalSize::Open => 0,
-        TotalSize::Bytes(n) => n,
+        None => 0,
+        Some(n) => n,
     }
 }
 
-fn parent_end(known: u32, end: u64) -> ParentEnd
+fn parent_end(known: u32, end: u64) -> Option<u64>
     ensures { parent_end result ≡ end_from known end }
 {
     if known == 0 {
-        ParentEnd::Unknown
+        None
     } else {
-        ParentEnd::At(end)
+        Some(end)
     }
 }
 
 // Hands a header out.
-fn put_header(read: ReadHeader, out: &mut [u64; 5]) -> u32
+fn put_header(read: Result<Option<AtomHeader>, Refusal>, out: &mut [u64; 5]) -> u32
     ensures { Returns (told_header read) header_numbers out.old out.new result }
 {
     match read {
-        ReadHeader::Header(h) => {
+        Ok(Some(h)) => {
             let size = h.total_size;
             out[0] = h.fourcc as u64;
             out[1] = open_flag(size);
@@ -53,17 +55,17 @@ fn put_header(read: ReadHeader, out: &mut [u64; 5]) -> u32
             out[4] = h.payload_offset;
             0
         }
-        ReadHeader::Nothing => NONE,
-        ReadHeader::Refused(n) => n,
+        Ok(None) => NONE,
+        Err(refusal) => refusal.number(),
     }
 }
 
 // Hands a child out.
-fn put_child(walked: NextChild, out: &mut [u64; 6]) -> u32
+fn put_child(walked: Result<Option<Child>, Refusal>, out: &mut [u64; 6]) -> u32
     ensures { Returns (told_child walked) child_numbers out.old out.new result }
 {
     match walked {
-        NextChild::Child(h, next) => {
+        Ok(Some(Child { head: h, next })) => {
             let size = h.total_size;
             out[0] = next;
             out[1] = h.fourcc as u64;
@@ -73,23 +75,23 @@ fn put_child(walked: NextChild, out: &mut [u64; 6]) -> u32
             out[5] = h.payload_offset;
             0
         }
-        NextChild::Done => NONE,
-        NextChild::Refused(n) => n,
+        Ok(None) => NONE,
+        Err(refusal) => refusal.number(),
     }
 }
 
 // Hands a body out.
-fn put_payload(body: ReadPayload, out: &mut [u64; 2]) -> u32
+fn put_payload(body: Result<Option<BodyAt>, Refusal>, out: &mut [u64; 2]) -> u32
     ensures { Returns (told_payload body) body_numbers out.old out.new result }
 {
     match body {
-        ReadPayload::Body(place, size) => {
+        Ok(Some(BodyAt { place, size })) => {
             out[0] = place;
             out[1] = size;
             0
         }
-        ReadPayload::Nothing => NONE,
-        ReadPayload::Refused(n) => n,
+        Ok(None) => NONE,
+        Err(refusal) => refusal.number(),
     }
 }
 

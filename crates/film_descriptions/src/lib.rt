@@ -8,10 +8,10 @@ ghost use Rattle.group_sgpd.specs.Sgpd.{parse_sgpd, entry_at, all_entries};
 ghost use Rattle.film_status.specs.Status.{Returns, FillsRecords, stored};
 ghost use Rattle.film_descriptions.specs.Descriptions.{description_numbers, span_numbers, part_numbers, split_numbers};
 
+use base_fields::Part;
 use base_ids::DescriptionIndex;
 use film_status::{NONE, bit_of, put_records};
 use group_fragments::FoundPart;
-use group_sgpd::{FoundEntry, ParsedSgpd};
 
 // out: version, type, default length, default index, entry count.
 pub fn film_parse_sgpd(s: &[u8], out: &mut [u64; 5]) -> u32
@@ -19,7 +19,7 @@ pub fn film_parse_sgpd(s: &[u8], out: &mut [u64; 5]) -> u32
 {
     let read = group_sgpd::parse_sgpd(s);
     match read {
-        ParsedSgpd::Description(d) => {
+        Ok(d) => {
             out[0] = d.version as u64;
             out[1] = d.grouping_type as u64;
             out[2] = d.default_length as u64;
@@ -27,7 +27,7 @@ pub fn film_parse_sgpd(s: &[u8], out: &mut [u64; 5]) -> u32
             out[4] = d.entry_count as u64;
             0
         }
-        ParsedSgpd::Refused(n) => n,
+        Err(refusal) => refusal.number(),
     }
 }
 
@@ -37,13 +37,13 @@ pub fn film_entry_place(s: &[u8], index: u32, out: &mut [u64; 2]) -> u32
 {
     let read = group_sgpd::entry_place(s, DescriptionIndex(index));
     match read {
-        FoundEntry::Entry(place, size) => {
+        Ok(Some(Part { place, size })) => {
             out[0] = place as u64;
             out[1] = size as u64;
             0
         }
-        FoundEntry::Nothing => NONE,
-        FoundEntry::Refused(n) => n,
+        Ok(None) => NONE,
+        Err(refusal) => refusal.number(),
     }
 }
 

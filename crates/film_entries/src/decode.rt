@@ -5,20 +5,20 @@ ghost use Rattle.group_entries.specs.Told.{told_roll};
 ghost use Rattle.film_status.specs.Status.{Returns};
 ghost use Rattle.film_entries.specs.Entries.{roll_numbers, rap_numbers, tele_numbers, sap_numbers, rash_numbers, alst_numbers};
 
+use base_fields::refusal::Refusal;
 use film_status::bit_of;
-use group_entries::{DecodedAlst, DecodedRap, DecodedRash, DecodedRoll, DecodedSap, DecodedTele};
 
 // Hands a distance out.
-fn put_roll(read: DecodedRoll, out: &mut [i64; 1]) -> u32
+fn put_roll(read: Result<RollRecovery, Refusal>, out: &mut [i64; 1]) -> u32
     ensures { Returns (told_roll read) roll_numbers out.old out.new result }
 {
     match read {
-        DecodedRoll::Roll(v) => {
+        Ok(v) => {
             let distance = v.roll_distance as i64;
             out[0] = distance;
             0
         }
-        DecodedRoll::Refused(n) => n,
+        Err(refusal) => refusal.number(),
     }
 }
 
@@ -42,12 +42,12 @@ pub fn film_decode_rap(s: &[u8], out: &mut [u64; 2]) -> u32
 {
     let read = group_entries::decode_rap(s);
     match read {
-        DecodedRap::Rap(v) => {
+        Ok(v) => {
             out[0] = bit_of(v.num_leading_samples_known);
             out[1] = v.num_leading_samples as u64;
             0
         }
-        DecodedRap::Refused(n) => n,
+        Err(refusal) => refusal.number(),
     }
 }
 
@@ -57,11 +57,11 @@ pub fn film_decode_tele(s: &[u8], out: &mut [u64; 1]) -> u32
 {
     let read = group_entries::decode_tele(s);
     match read {
-        DecodedTele::Tele(v) => {
+        Ok(v) => {
             out[0] = bit_of(v.level_independently_decodable);
             0
         }
-        DecodedTele::Refused(n) => n,
+        Err(refusal) => refusal.number(),
     }
 }
 
@@ -71,12 +71,12 @@ pub fn film_decode_sap(s: &[u8], out: &mut [u64; 2]) -> u32
 {
     let read = group_entries::decode_sap(s);
     match read {
-        DecodedSap::Sap(v) => {
+        Ok(v) => {
             out[0] = bit_of(v.dependent);
             out[1] = v.sap_type as u64;
             0
         }
-        DecodedSap::Refused(n) => n,
+        Err(refusal) => refusal.number(),
     }
 }
 
@@ -86,14 +86,14 @@ pub fn film_decode_rash(s: &[u8], out: &mut [u64; 4]) -> u32
 {
     let read = group_entries::decode_rash(s);
     match read {
-        DecodedRash::Rash(v) => {
+        Ok(v) => {
             out[0] = v.operation_point_count as u64;
             out[1] = v.maximum_bitrate as u64;
             out[2] = v.minimum_bitrate as u64;
             out[3] = v.discard_priority as u64;
             0
         }
-        DecodedRash::Refused(n) => n,
+        Err(refusal) => refusal.number(),
     }
 }
 
@@ -103,12 +103,12 @@ pub fn film_decode_alst(s: &[u8], out: &mut [u64; 3]) -> u32
 {
     let read = group_entries::decode_alst(s);
     match read {
-        DecodedAlst::Alst(v) => {
+        Ok(v) => {
             out[0] = v.roll_count as u64;
             out[1] = v.first_output_sample as u64;
             out[2] = v.piece_count as u64;
             0
         }
-        DecodedAlst::Refused(n) => n,
+        Err(refusal) => refusal.number(),
     }
 }

@@ -13,7 +13,6 @@ pub use decode::{
     film_decode_sap, film_decode_tele,
 };
 use film_status::bit_of;
-use group_alike::Likeness;
 pub use number::{
     film_alst_piece, film_alst_sample_offset, film_rash_operation_point, film_rash_operation_points,
 };
@@ -24,10 +23,10 @@ pub fn film_decode_alike(grouping_type: u32, a: &[u8], b: &[u8], out: &mut [u64;
 {
     let read = group_alike::likeness_of(grouping_type, a, b);
     match read {
-        Likeness::Told(same) => {
+        Ok(same) => {
             out[0] = bit_of(same);
             0
         }
-        Likeness::Refused(n) => n,
+        Err(refusal) => refusal.number(),
     }
 }

@@ -5,7 +5,6 @@ ghost use Rattle.film_status.specs.Status.{Returns, FillsRecords, one_number};
 ghost use Rattle.film_entries.specs.Entries.{point_numbers, pair_numbers};
 
 use film_status::{NONE, put_records};
-use group_entries::{ReadOffset, ReadPiece, ReadPoint};
 
 // out: bitrate and share of point k, counted from 0.
 pub fn film_rash_operation_point(s: &[u8], k: u32, out: &mut [u64; 2]) -> u32
@@ -13,13 +12,13 @@ pub fn film_rash_operation_point(s: &[u8], k: u32, out: &mut [u64; 2]) -> u32
 {
     let read = group_entries::rash_operation_point(s, k);
     match read {
-        ReadPoint::Point(v) => {
+        Ok(Some(v)) => {
             out[0] = v.available_bitrate as u64;
             out[1] = v.target_rate_share as u64;
             0
         }
-        ReadPoint::Nothing => NONE,
-        ReadPoint::Refused(n) => n,
+        Ok(None) => NONE,
+        Err(refusal) => refusal.number(),
     }
 }
 
@@ -36,12 +35,12 @@ pub fn film_alst_sample_offset(s: &[u8], k: u32, out: &mut [u64; 1]) -> u32
 {
     let read = group_entries::alst_sample_offset(s, k);
     match read {
-        ReadOffset::Offset(v) => {
+        Ok(Some(v)) => {
             out[0] = v as u64;
             0
         }
-        ReadOffset::Nothing => NONE,
-        ReadOffset::Refused(n) => n,
+        Ok(None) => NONE,
+        Err(refusal) => refusal.number(),
     }
 }
 
@@ -51,12 +50,12 @@ pub fn film_alst_piece(s: &[u8], k: u32, out: &mut [u64; 2]) -> u32
 {
     let read = group_entries::alst_piece(s, k);
     match read {
-        ReadPiece::Piece(v) => {
+        Ok(Some(v)) => {
             out[0] = v.num_output_samples as u64;
             out[1] = v.num_total_samples as u64;
             0
         }
-        ReadPiece::Nothing => NONE,
-        ReadPiece::Refused(n) => n,
+        Ok(None) => NONE,
+        Err(refusal) => refusal.number(),
     }
 }

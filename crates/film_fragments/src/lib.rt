@@ -7,16 +7,16 @@ ghost use Rattle.use_fragment_queue.specs.Held.{arrive, depart};
 ghost use Rattle.film_status.specs.Status.{Returns};
 ghost use Rattle.film_fragments.specs.Fragments.{GivesCall, GivesLookup, sum_numbers};
 
+use use_fragment_queue::Place;
 use base_ids::RowNumber;
-use use_fragment_queue::{Located, Queued};
 
 // A fragment comes with its rows.
 pub fn film_fragment_arrive(queue: &mut [u64; 132], rows: &[RowNumber]) -> u32
     ensures { GivesCall (arrive (rows_of rows.now)) queue.old queue.new result }
 {
     match use_fragment_queue::fragment_arrive(queue, rows) {
-        Queued::Done => 0,
-        Queued::Refused(n) => n,
+        Ok(()) => 0,
+        Err(refusal) => refusal.number(),
     }
 }
 
@@ -25,8 +25,8 @@ pub fn film_fragment_depart(queue: &mut [u64; 132]) -> u32
     ensures { GivesCall depart queue.old queue.new result }
 {
     match use_fragment_queue::fragment_depart(queue) {
-        Queued::Done => 0,
-        Queued::Refused(n) => n,
+        Ok(()) => 0,
+        Err(refusal) => refusal.number(),
     }
 }
 
@@ -35,12 +35,12 @@ pub fn film_fragment_lookup(queue: &[u64; 132], sample: u64, out: &mut [u64; 2])
     ensures { GivesLookup queue.now sample out.old out.new result }
 {
     match use_fragment_queue::fragment_lookup(queue, sample) {
-        Located::Place(fragment, within) => {
+        Ok(Place { fragment, sample: within }) => {
             out[0] = fragment;
             out[1] = within;
             0
         }
-        Located::Refused(n) => n,
+        Err(refusal) => refusal.number(),
     }
 }
 

@@ -10,8 +10,8 @@ ghost use Rattle.use_sample_group.specs.Told.{told_group};
 ghost use Rattle.film_status.specs.Status.{Returns};
 ghost use Rattle.film_groups.specs.Groups.{group_numbers, needs_numbers};
 
+use base_fields::refusal::Refusal;
 use base_ids::{SampleCount, SampleNumber};
-use listing_needs::Needs;
 use use_sample_group::SampleGroup;
 
 // Hands four numbers out.
@@ -75,16 +75,16 @@ pub fn film_file_sample_group(
 }
 
 // Hands the needs of a listing out.
-fn put_needs(needs: Needs, out: &mut [u64; 2]) -> u32
+fn put_needs(needs: Result<ListingNeeds, Refusal>, out: &mut [u64; 2]) -> u32
     ensures { Returns (told_needs needs) needs_numbers out.old out.new result }
 {
     match needs {
-        Needs::Needs(n) => {
+        Ok(n) => {
             out[0] = n.bytes;
             out[1] = n.rows;
             0
         }
-        Needs::Refused(n) => n,
+        Err(refusal) => refusal.number(),
     }
 }
 

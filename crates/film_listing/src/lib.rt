@@ -8,35 +8,34 @@ ghost use Rattle.listing_file.specs.File.{file_call};
 ghost use Rattle.film_status.specs.Status.{Returns, body_numbers};
 ghost use Rattle.film_listing.specs.Listing.{length_numbers, Lists};
 
-use atom_path::FoundBody;
+use base_fields::refusal::Refusal;
 use base_ids::RowNumber;
-use listing_cue::CueListing;
 
 // out: place and length of the body of the stbl of a track, counted from 0.
 pub fn film_find_stbl(s: &[u8], track: u32, out: &mut [u64; 2]) -> u32
     ensures { Returns (stbl_at s.now track) body_numbers out.old out.new result }
 {
     match atom_path::find_stbl(s, track) {
-        FoundBody::Body(body) => {
+        Ok(body) => {
             out[0] = body.place;
             out[1] = body.size;
             0
         }
-        FoundBody::Refused(n) => n,
+        Err(refusal) => refusal.number(),
     }
 }
 
 // Hands the lengths of a listing out.
-fn put_lengths(listed: CueListing, out: &mut [u64; 2]) -> u32
+fn put_lengths(listed: Result<CueLengths, Refusal>, out: &mut [u64; 2]) -> u32
     ensures { Returns (told_cue listed) length_numbers out.old out.new result }
 {
     match listed {
-        CueListing::Listing(n) => {
+        Ok(n) => {
             out[0] = n.listing as u64;
             out[1] = n.rows as u64;
             0
         }
-        CueListing::Refused(n) => n,
+        Err(refusal) => refusal.number(),
     }
 }
 

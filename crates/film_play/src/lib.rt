@@ -10,7 +10,6 @@ ghost use Rattle.film_play.specs.Play.{head_in_numbers, head_numbers, told_playe
 
 use base_ids::{RowNumber, SampleCount, SampleNumber};
 use table_play_head::{PlayHead, Turn};
-use table_rows::Found;
 
 // The head that four numbers are.
 fn head_in(head: &[u64; 4]) -> PlayHead
@@ -47,12 +46,12 @@ fn put_turn(t: Turn, head: &mut [u64; 4], out: &mut [u64; 1]) -> u32
 {
     let found = t.found;
     match found {
-        Found::Index(i) => {
+        Ok(i) => {
             put_head(t.head, head);
             out[0] = i.0 as u64;
             0
         }
-        Found::Refused(n) => n,
+        Err(refusal) => refusal.number(),
     }
 }
 

@@ -5,22 +5,23 @@ ghost use Rattle.use_profile.specs.Told.{told_verdict};
 ghost use Rattle.film_status.specs.Status.{Returns};
 ghost use Rattle.film_profile.specs.Profile.{verdict_numbers, ReturnsVerdict, ReturnsFileVerdict};
 
-use use_profile::Verdict;
+use base_fields::refusal::Refusal;
+
 
 // Hands the verdict out.
-fn put_verdict(verdict: Verdict, out: &mut [u64; 1]) -> u32
+fn put_verdict(verdict: Result<Option<Rule>, Refusal>, out: &mut [u64; 1]) -> u32
     ensures { Returns (told_verdict verdict) verdict_numbers out.old out.new result }
 {
     match verdict {
-        Verdict::Meets => {
+        Ok(None) => {
             out[0] = 0;
             0
         }
-        Verdict::Breaks(rule) => {
+        Ok(Some(rule)) => {
             out[0] = rule as u64;
             0
         }
-        Verdict::Refused(n) => n,
+        Err(refusal) => refusal.number(),
     }
 }
 

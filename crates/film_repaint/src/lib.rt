@@ -6,19 +6,19 @@ ghost use Rattle.table_repaint.specs.Repainted.{told_repainted};
 ghost use Rattle.film_status.specs.Status.{Returns, one_number};
 ghost use Rattle.film_repaint.specs.Repaint.{Repaints};
 
+use base_fields::refusal::Refusal;
 use base_ids::{DescriptionIndex, RowNumber};
-use table_repaint::Repainted;
 
 // Hands the number of rows out.
-fn put_rows(told: Repainted, out: &mut [u64; 1]) -> u32
+fn put_rows(told: Result<usize, Refusal>, out: &mut [u64; 1]) -> u32
     ensures { Returns (told_repainted told) one_number out.old out.new result }
 {
     match told {
-        Repainted::Rows(n) => {
+        Ok(n) => {
             out[0] = n as u64;
             0
         }
-        Repainted::Refused(n) => n,
+        Err(refusal) => refusal.number(),
     }
 }
 

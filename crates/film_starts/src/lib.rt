@@ -6,21 +6,21 @@ ghost use Rattle.use_decode_start.specs.Told.{told_start};
 ghost use Rattle.film_status.specs.Status.{Returns, one_number};
 ghost use Rattle.film_starts.specs.Starts.{ReturnsStart};
 
+use base_fields::refusal::Refusal;
 use base_ids::{SampleCount, SampleNumber};
 use film_status::NONE;
-use use_decode_start::DecodeStart;
 
 // Hands the sample out.
-fn put_start(start: DecodeStart, out: &mut [u64; 1]) -> u32
+fn put_start(start: Result<Option<SampleNumber>, Refusal>, out: &mut [u64; 1]) -> u32
     ensures { Returns (told_start start) one_number out.old out.new result }
 {
     match start {
-        DecodeStart::Sample(k) => {
+        Ok(Some(k)) => {
             out[0] = k.0 as u64;
             0
         }
-        DecodeStart::Nothing => NONE,
-        DecodeStart::Refused(n) => n,
+        Ok(None) => NONE,
+        Err(refusal) => refusal.number(),
     }
 }
 

@@ -3,10 +3,11 @@
 #![tactic(auto)]
 
 ghost use Rattle.std.specs.Prelude.{◌≡◌};
-ghost use Rattle.base_fields.specs.Records.{told_records};
+ghost use Rattle.base_fields.specs.Refusal.{told_value};
 ghost use Rattle.film_status.specs.Status.{Returns, bit, one_number};
 
-use base_fields::FilledRun;
+use base_fields::refusal::Refusal;
+
 
 // The status of none and done.
 pub const NONE: u32 = 255;
@@ -19,14 +20,14 @@ pub fn bit_of(b: bool) -> u64
 }
 
 // Hands out how many records were written in front of a lent run.
-pub fn put_records(filled: FilledRun, out: &mut [u64; 1]) -> u32
-    ensures { Returns (told_records filled) one_number out.old out.new result }
+pub fn put_records(filled: Result<u32, Refusal>, out: &mut [u64; 1]) -> u32
+    ensures { Returns (told_value filled) one_number out.old out.new result }
 {
     match filled {
-        FilledRun::Records(n) => {
+        Ok(n) => {
             out[0] = n as u64;
             0
         }
-        FilledRun::Refused(n) => n,
+        Err(refusal) => refusal.number(),
     }
 }

@@ -7,22 +7,21 @@ ghost use Rattle.film_sync.specs.Sync.{sync_numbers, sample_numbers, dependency_
 
 use base_ids::{SampleCount, SampleNumber};
 use film_status::NONE;
-use table_sync::{LastSync, ReadDependency, SyncSample};
 
 // out: 1 where the sample, counted from 0, is a sync sample of the stss, else 0.
 pub fn film_is_sync_sample(s: &[u8], sample: SampleCount, out: &mut [u64; 1]) -> u32
     ensures { Returns (is_sync s.now sample) sync_numbers out.old out.new result }
 {
     match table_sync::is_sync_sample(s, SampleNumber(sample)) {
-        SyncSample::Yes => {
+        Ok(true) => {
             out[0] = 1;
             0
         }
-        SyncSample::No => {
+        Ok(false) => {
             out[0] = 0;
             0
         }
-        SyncSample::Refused(n) => n,
+        Err(refusal) => refusal.number(),
     }
 }
 
@@ -31,12 +30,12 @@ pub fn film_last_sync_sample(s: &[u8], frame: SampleCount, out: &mut [u64; 1]) -
     ensures { Returns (last_sync s.now frame) sample_numbers out.old out.new result }
 {
     match table_sync::last_sync_sample(s, SampleNumber(frame)) {
-        LastSync::Sample(sample) => {
+        Ok(Some(sample)) => {
             out[0] = sample.0 as u64;
             0
         }
-        LastSync::Nothing => NONE,
-        LastSync::Refused(n) => n,
+        Ok(None) => NONE,
+        Err(refusal) => refusal.number(),
     }
 }
 
@@ -45,14 +44,14 @@ pub fn film_sample_dependency(s: &[u8], sample: SampleCount, out: &mut [u64; 4])
     ensures { Returns (dependency_at s.now sample) dependency_numbers out.old out.new result }
 {
     match table_sync::sample_dependency(s, SampleNumber(sample)) {
-        ReadDependency::Dependency(d) => {
+        Ok(Some(d)) => {
             out[0] = d.is_leading as u64;
             out[1] = d.sample_depends_on as u64;
             out[2] = d.sample_is_depended_on as u64;
             out[3] = d.sample_has_redundancy as u64;
             0
         }
-        ReadDependency::Nothing => NONE,
-        ReadDependency::Refused(n) => n,
+        Ok(None) => NONE,
+        Err(refusal) => refusal.number(),
     }
 }

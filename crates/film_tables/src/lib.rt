@@ -9,22 +9,21 @@ ghost use Rattle.table_needed.specs.Needed.{rows_needed, told_needed};
 ghost use Rattle.film_status.specs.Status.{Returns, one_number};
 ghost use Rattle.film_tables.specs.Tables.{Fills, head_numbers};
 
+use base_fields::refusal::Refusal;
 use base_ids::{RowNumber, SampleCount, SampleNumber};
-use table_needed::RowsNeeded;
-use table_rows::{Covered, Found, ParsedTable};
 
 // Hands a table's head out.
-fn put_head(parsed: ParsedTable, out: &mut [u64; 3]) -> u32
+fn put_head(parsed: Result<SampleToGroup, Refusal>, out: &mut [u64; 3]) -> u32
     ensures { Returns (told_table parsed) head_numbers out.old out.new result }
 {
     match parsed {
-        ParsedTable::Table(t) => {
+        Ok(t) => {
             out[0] = t.grouping_type as u64;
             out[1] = t.grouping_type_parameter as u64;
             out[2] = t.entry_count as u64;
             0
         }
-        ParsedTable::Refused(n) => n,
+        Err(refusal) => refusal.number(),
     }
 }
 
@@ -43,15 +42,15 @@ pub fn film_parse_csgp(s: &[u8], rows: &mut [RowNumber], out: &mut [u64; 3]) -> 
 }
 
 // Hands the number of rows out.
-fn put_needed(needed: RowsNeeded, out: &mut [u64; 1]) -> u32
+fn put_needed(needed: Result<usize, Refusal>, out: &mut [u64; 1]) -> u32
     ensures { Returns (told_needed needed) one_number out.old out.new result }
 {
     match needed {
-        RowsNeeded::Rows(n) => {
+        Ok(n) => {
             out[0] = n as u64;
             0
         }
-        RowsNeeded::Refused(n) => n,
+        Err(refusal) => refusal.number(),
     }
 }
 
@@ -79,11 +78,11 @@ pub fn film_group_index_for_sample(
 {
     let found = table_rows::group_index_for_sample(rows, SampleNumber(sample));
     match found {
-        Found::Index(i) => {
+        Ok(i) => {
             out[0] = i.0 as u64;
             0
         }
-        Found::Refused(n) => n,
+        Err(refusal) => refusal.number(),
     }
 }
 
@@ -93,10 +92,10 @@ pub fn film_covered_samples(rows: &[RowNumber], out: &mut [u64; 1]) -> u32
 {
     let covered = table_rows::covered_samples(rows);
     match covered {
-        Covered::Samples(n) => {
+        Ok(n) => {
             out[0] = n;
             0
         }
-        Covered::Refused(n) => n,
+        Err(refusal) => refusal.number(),
     }
 }

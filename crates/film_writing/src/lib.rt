@@ -7,32 +7,32 @@ ghost use Rattle.table_writers.specs.Told.{told_length, told_written};
 ghost use Rattle.film_status.specs.Status.{Returns, one_number};
 ghost use Rattle.film_writing.specs.Writing.{Writes};
 
+use base_fields::refusal::Refusal;
 use base_ids::RowNumber;
-use table_writers::{QuotedLength, WrittenTable};
 
 // Hands a length out.
-fn put_length(quoted: QuotedLength, out: &mut [u64; 1]) -> u32
+fn put_length(quoted: Result<usize, Refusal>, out: &mut [u64; 1]) -> u32
     ensures { Returns (told_length quoted) one_number out.old out.new result }
 {
     match quoted {
-        QuotedLength::Length(n) => {
+        Ok(n) => {
             out[0] = n as u64;
             0
         }
-        QuotedLength::Refused(n) => n,
+        Err(refusal) => refusal.number(),
     }
 }
 
 // Hands the number of written bytes out.
-fn put_written(written: WrittenTable, out: &mut [u64; 1]) -> u32
+fn put_written(written: Result<usize, Refusal>, out: &mut [u64; 1]) -> u32
     ensures { Returns (told_written written) one_number out.old out.new result }
 {
     match written {
-        WrittenTable::Bytes(n) => {
+        Ok(n) => {
             out[0] = n as u64;
             0
         }
-        WrittenTable::Refused(n) => n,
+        Err(refusal) => refusal.number(),
     }
 }
 

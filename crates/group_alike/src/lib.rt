@@ -8,24 +8,11 @@ ghost use Rattle.group_entries.specs.Layout.{decode_as};
 ghost use Rattle.group_entries.specs.declared.EntryLayout.TheVariants.{Roll, Rash, Alst};
 ghost use Rattle.group_alike.specs.Alike.{told_alike, alike};
 
+use base_fields::refusal::Refusal;
 use base_fields::{INPUT_LIMIT, read_u8, read_u32};
 use group_entries::{
-    DecodedAlst, DecodedRap, DecodedRash, DecodedRoll, DecodedSap, DecodedTele, EntryLayout,
+    EntryLayout,
 };
-
-#[derive(Clone, Copy)]
-pub enum Alike {
-    Same,
-    Different,
-    Refused(u32),
-}
-
-// The same as a truth value.
-#[derive(Clone, Copy)]
-pub enum Likeness {
-    Told(bool),
-    Refused(u32),
-}
 
 // What two entries of a layout still have to be compared by: nothing, or so many bytes at the front of both.
 #[derive(Clone, Copy)]
@@ -35,62 +22,53 @@ enum Left {
     Bytes(usize),
 }
 
-// How many bytes at the front of an entry decide its value, or the decoder's refusal.
-#[derive(Clone, Copy)]
-pub enum Front {
-    Bytes(usize),
-    Refused(u32),
-}
-
 // The front of a rash: its points and what stands behind them.
-fn rash_front(s: &[u8]) -> Front
+fn rash_front(s: &[u8]) -> Result<usize, Refusal>
     requires { length s.now ≤ input_limit }
     ensures { FrontIs (told_front_size result) Rash s.now }
 {
     match group_entries::decode_rash(s) {
-        DecodedRash::Rash(v) => Front::Bytes(
-            group_entries::rash_points_end(v.operation_point_count) + 9,
-        ),
-        DecodedRash::Refused(n) => Front::Refused(n),
+        Ok(v) => Ok(group_entries::rash_points_end(v.operation_point_count) + 9),
+        Err(n) => Err(n),
     }
 }
 
 // The front of an alst: all of it.
-fn alst_front(s: &[u8]) -> Front
+fn alst_front(s: &[u8]) -> Result<usize, Refusal>
     requires { length s.now ≤ input_limit }
     ensures { FrontIs (told_front_size result) Alst s.now }
 {
     match group_entries::decode_alst(s) {
-        DecodedAlst::Alst(_) => Front::Bytes(s.len()),
-        DecodedAlst::Refused(n) => Front::Refused(n),
+        Ok(_) => Ok(s.len()),
+        Err(n) => Err(n),
     }
 }
 
 // The front of an entry by its layout's decoder.
-pub fn front_of(layout: EntryLayout, s: &[u8]) -> Front
+pub fn front_of(layout: EntryLayout, s: &[u8]) -> Result<usize, Refusal>
     requires { length s.now ≤ input_limit }
     ensures { told_front_size result ≡ and_then (decode_as layout s.now) (λ v. given (front_size layout s.now)) }
 {
     match layout {
         EntryLayout::Roll => match group_entries::decode_roll(s) {
-            DecodedRoll::Roll(_) => Front::Bytes(2),
-            DecodedRoll::Refused(n) => Front::Refused(n),
+            Ok(_) => Ok(2),
+            Err(n) => Err(n),
         },
         EntryLayout::Rap => match group_entries::decode_rap(s) {
-            DecodedRap::Rap(_) => Front::Bytes(1),
-            DecodedRap::Refused(n) => Front::Refused(n),
+            Ok(_) => Ok(1),
+            Err(n) => Err(n),
         },
         EntryLayout::Tele => match group_entries::decode_tele(s) {
-            DecodedTele::Tele(_) => Front::Bytes(1),
-            DecodedTele::Refused(n) => Front::Refused(n),
+            Ok(_) => Ok(1),
+            Err(n) => Err(n),
         },
         EntryLayout::Sap => match group_entries::decode_sap(s) {
-            DecodedSap::Sap(_) => Front::Bytes(1),
-            DecodedSap::Refused(n) => Front::Refused(n),
+            Ok(_) => Ok(1),
+            Err(n) => Err(n),
         },
         EntryLayout::Rash => rash_front(s),
         EntryLayout::Alst => alst_front(s),
-        EntryLayout::Raw => Front::Bytes(s.len()),
+        EntryLayout::Raw => Ok(s.len()),
     }
 }
 
@@ -264,13 +242,13 @@ fn roll_left(a: &[u8], b: &[u8]) -> Left
 }
 
 // Entries of a layout that reads all bits of its front: the first one's front has m bytes.
-fn second_left(layout: EntryLayout, a: &[u8], b: &[u8], m: usize, front: Front) -> Left
+fn second_left(layout: EntryLayout, a: &[u8], b: &[u8], m: usize, front: Result<usize, Refusal>) -> Left
     requires { (AllBytes a.now) × (AllBytes b.now) × (FrontIs (given m) layout a.now) × (FrontIs (told_front_size front) layout b.now) × ((x : ℕ) → significant_of layout x ≡ x) }
     ensures { LeftOf layout a.now b.now result }
 {
     match front {
-        Front::Refused(code) => Left::Refused(code),
-        Front::Bytes(n) => {
+        Err(code) => Left::Refused(code),
+        Ok(n) => {
             if m == n {
                 Left::Bytes(n)
             } else {
@@ -285,8 +263,8 @@ fn rash_left(a: &[u8], b: &[u8]) -> Left
     ensures { LeftOf Rash a.now b.now result }
 {
     match rash_front(a) {
-        Front::Refused(code) => Left::Refused(code),
-        Front::Bytes(m) => second_left(EntryLayout::Rash, a, b, m, rash_front(b)),
+        Err(code) => Left::Refused(code),
+        Ok(m) => second_left(EntryLayout::Rash, a, b, m, rash_front(b)),
     }
 }
 
@@ -295,8 +273,8 @@ fn alst_left(a: &[u8], b: &[u8]) -> Left
     ensures { LeftOf Alst a.now b.now result }
 {
     match alst_front(a) {
-        Front::Refused(code) => Left::Refused(code),
-        Front::Bytes(m) => second_left(EntryLayout::Alst, a, b, m, alst_front(b)),
+        Err(code) => Left::Refused(code),
+        Ok(m) => second_left(EntryLayout::Alst, a, b, m, alst_front(b)),
     }
 }
 
@@ -312,32 +290,32 @@ fn left_of(layout: EntryLayout, a: &[u8], b: &[u8]) -> Left
         EntryLayout::Sap => byte_left(EntryLayout::Sap, a, b),
         EntryLayout::Rash => rash_left(a, b),
         EntryLayout::Alst => alst_left(a, b),
-        EntryLayout::Raw => second_left(EntryLayout::Raw, a, b, a.len(), Front::Bytes(b.len())),
+        EntryLayout::Raw => second_left(EntryLayout::Raw, a, b, a.len(), Ok(b.len())),
     }
 }
 
 // The answer of `decode_alike` with a truth value, which a caller hands on without a branch.
-pub fn likeness_of(grouping_type: u32, a: &[u8], b: &[u8]) -> Likeness
+pub fn likeness_of(grouping_type: u32, a: &[u8], b: &[u8]) -> Result<bool, Refusal>
     ensures { told_likeness result ≡ alike grouping_type a.now b.now }
 {
     if INPUT_LIMIT < a.len() {
-        return Likeness::Refused(55);
+        return Err(Refusal::InputTooLong);
     }
     if INPUT_LIMIT < b.len() {
-        return Likeness::Refused(55);
+        return Err(Refusal::InputTooLong);
     }
     match left_of(group_entries::layout_of(grouping_type), a, b) {
-        Left::Told(same) => Likeness::Told(same),
-        Left::Refused(code) => Likeness::Refused(code),
-        Left::Bytes(n) => Likeness::Told(same_bytes(a, b, n)),
+        Left::Told(same) => Ok(same),
+        Left::Refused(code) => Err(code),
+        Left::Bytes(n) => Ok(same_bytes(a, b, n)),
     }
 }
 
-pub fn decode_alike(grouping_type: u32, a: &[u8], b: &[u8]) -> Alike
+pub fn decode_alike(grouping_type: u32, a: &[u8], b: &[u8]) -> Result<bool, Refusal>
     ensures { told_alike result ≡ alike grouping_type a.now b.now }
 {
     match likeness_of(grouping_type, a, b) {
-        Likeness::Told(same) => { if same { Alike::Same } else { Alike::Different } }
-        Likeness::Refused(n) => Alike::Refused(n),
+        Ok(same) => { if same { Ok(true) } else { Ok(false) } }
+        Err(n) => Err(n),
     }
 }

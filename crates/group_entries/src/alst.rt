@@ -4,60 +4,51 @@ ghost use Rattle.base_fields.specs.Answer.{within};
 ghost use Rattle.group_entries.specs.Decoded.{decode_alst, alst_offset, alst_pair};
 ghost use Rattle.group_entries.specs.Told.{told_alst, told_offset, told_piece};
 
+use base_fields::refusal::Refusal;
 use super::{
-    AlternativeStartup, AlternativeStartupPiece, DecodedAlst, LengthCheck, ReadOffset, ReadPiece,
-    check_length,
+    AlternativeStartup, AlternativeStartupPiece, check_length,
 };
 
-pub fn decode_alst(payload: &[u8]) -> DecodedAlst
+pub fn decode_alst(payload: &[u8]) -> Result<AlternativeStartup, Refusal>
     ensures { told_alst result ≡ within payload.now (decode_alst payload.now) }
 {
-    match check_length(payload, 4) {
-        LengthCheck::Enough => {}
-        LengthCheck::Refused(n) => return DecodedAlst::Refused(n),
-    }
+    check_length(payload, 4)?;
     let roll_count = base_fields::read_u16(payload, 0);
     let end = 4 + 4 * (roll_count as usize);
     if payload.len() < end {
-        return DecodedAlst::Refused(44);
+        return Err(Refusal::OffsetsCut);
     }
     let tail = payload.len() - end;
     if 0 < tail % 4 {
-        return DecodedAlst::Refused(45);
+        return Err(Refusal::PiecesCut);
     }
-    DecodedAlst::Alst(AlternativeStartup {
+    Ok(AlternativeStartup {
         roll_count,
         first_output_sample: base_fields::read_u16(payload, 2),
         piece_count: (tail / 4) as u32,
     })
 }
 
-pub fn alst_sample_offset(payload: &[u8], k: u32) -> ReadOffset
+pub fn alst_sample_offset(payload: &[u8], k: u32) -> Result<Option<u32>, Refusal>
     ensures { told_offset result ≡ within payload.now (alst_offset payload.now k) }
 {
-    let plain = match decode_alst(payload) {
-        DecodedAlst::Alst(v) => v,
-        DecodedAlst::Refused(n) => return ReadOffset::Refused(n),
-    };
+    let plain = decode_alst(payload)?;
     if (plain.roll_count as u32) <= k {
-        return ReadOffset::Nothing;
+        return Ok(None);
     }
-    ReadOffset::Offset(base_fields::read_u32(payload, 4 + 4 * (k as usize)))
+    Ok(Some(base_fields::read_u32(payload, 4 + 4 * (k as usize))))
 }
 
-pub fn alst_piece(payload: &[u8], k: u32) -> ReadPiece
+pub fn alst_piece(payload: &[u8], k: u32) -> Result<Option<AlternativeStartupPiece>, Refusal>
     ensures { told_piece result ≡ within payload.now (alst_pair payload.now k) }
 {
-    let plain = match decode_alst(payload) {
-        DecodedAlst::Alst(v) => v,
-        DecodedAlst::Refused(n) => return ReadPiece::Refused(n),
-    };
+    let plain = decode_alst(payload)?;
     if plain.piece_count <= k {
-        return ReadPiece::Nothing;
+        return Ok(None);
     }
     let at = 4 + 4 * (plain.roll_count as usize) + 4 * (k as usize);
-    ReadPiece::Piece(AlternativeStartupPiece {
+    Ok(Some(AlternativeStartupPiece {
         num_output_samples: base_fields::read_u16(payload, at),
         num_total_samples: base_fields::read_u16(payload, at + 2),
-    })
+    }))
 }

@@ -10,6 +10,7 @@ ghost use Rattle.group_entries.specs.Layout.{layout_of};
 ghost use Rattle.group_entries.specs.Told.{GivesLength};
 
 pub use alst::{alst_piece, alst_sample_offset, decode_alst};
+use base_fields::refusal::Refusal;
 use base_fields::{INPUT_LIMIT, fourcc};
 pub use plain::{decode_prol, decode_rap, decode_roll, decode_sap, decode_tele, signed_u16};
 pub use rash::{decode_rash, rash_operation_point, rash_operation_points, rash_points_end};
@@ -77,70 +78,6 @@ pub struct AlternativeStartupPiece {
     pub num_total_samples: u16,
 }
 
-#[derive(Clone, Copy)]
-pub enum DecodedRoll {
-    Roll(RollRecovery),
-    Refused(u32),
-}
-
-#[derive(Clone, Copy)]
-pub enum DecodedRap {
-    Rap(VisualRandomAccess),
-    Refused(u32),
-}
-
-#[derive(Clone, Copy)]
-pub enum DecodedTele {
-    Tele(TemporalLevel),
-    Refused(u32),
-}
-
-#[derive(Clone, Copy)]
-pub enum DecodedSap {
-    Sap(StreamAccessPoint),
-    Refused(u32),
-}
-
-#[derive(Clone, Copy)]
-pub enum DecodedRash {
-    Rash(RateShare),
-    Refused(u32),
-}
-
-#[derive(Clone, Copy)]
-pub enum DecodedAlst {
-    Alst(AlternativeStartup),
-    Refused(u32),
-}
-
-#[derive(Clone, Copy)]
-pub enum ReadPoint {
-    Point(RateShareOperationPoint),
-    Nothing,
-    Refused(u32),
-}
-
-#[derive(Clone, Copy)]
-pub enum ReadOffset {
-    Offset(u32),
-    Nothing,
-    Refused(u32),
-}
-
-#[derive(Clone, Copy)]
-pub enum ReadPiece {
-    Piece(AlternativeStartupPiece),
-    Nothing,
-    Refused(u32),
-}
-
-// Whether a payload is long enough to decode.
-#[derive(Clone, Copy)]
-enum LengthCheck {
-    Enough,
-    Refused(u32),
-}
-
 pub fn layout_of(grouping_type: u32) -> EntryLayout
     ensures { result ≡ layout_of grouping_type }
 {
@@ -156,17 +93,17 @@ pub fn layout_of(grouping_type: u32) -> EntryLayout
 }
 
 // 55, then 40 under `least` bytes: the first refusals of every decoder.
-fn check_length(payload: &[u8], least: usize) -> LengthCheck
+fn check_length(payload: &[u8], least: usize) -> Result<(), Refusal>
     ensures { GivesLength payload.now least result }
 {
     let n = payload.len();
     if least <= n {
         if n <= INPUT_LIMIT {
-            return LengthCheck::Enough;
+            return Ok(());
         }
     }
     if INPUT_LIMIT < n {
-        return LengthCheck::Refused(55);
+        return Err(Refusal::InputTooLong);
     }
-    LengthCheck::Refused(40)
+    Err(Refusal::ShortEntry)
 }

@@ -4,8 +4,9 @@ ghost use Rattle.base_fields.specs.Answer.{within};
 ghost use Rattle.group_entries.specs.Decoded.{signed16, decode_roll, decode_rap, decode_tele, decode_sap};
 ghost use Rattle.group_entries.specs.Told.{told_roll, told_rap, told_tele, told_sap};
 
+use base_fields::refusal::Refusal;
 use super::{
-    DecodedRap, DecodedRoll, DecodedSap, DecodedTele, LengthCheck, RollRecovery, StreamAccessPoint,
+    RollRecovery, StreamAccessPoint,
     TemporalLevel, VisualRandomAccess, check_length,
 };
 
@@ -20,64 +21,52 @@ pub fn signed_u16(x: u16) -> i16
     }
 }
 
-pub fn decode_roll(payload: &[u8]) -> DecodedRoll
+pub fn decode_roll(payload: &[u8]) -> Result<RollRecovery, Refusal>
     ensures { told_roll result ≡ within payload.now (decode_roll payload.now) }
 {
-    match check_length(payload, 2) {
-        LengthCheck::Enough => {}
-        LengthCheck::Refused(n) => return DecodedRoll::Refused(n),
-    }
-    DecodedRoll::Roll(RollRecovery {
+    check_length(payload, 2)?;
+    Ok(RollRecovery {
         roll_distance: signed_u16(base_fields::read_u16(payload, 0)),
     })
 }
 
 // A prol has the layout of a roll. The answer is taken apart, as the compiler makes less of one that is handed on whole.
-pub fn decode_prol(payload: &[u8]) -> DecodedRoll
+pub fn decode_prol(payload: &[u8]) -> Result<RollRecovery, Refusal>
     ensures { told_roll result ≡ within payload.now (decode_roll payload.now) }
 {
     match decode_roll(payload) {
-        DecodedRoll::Roll(roll) => DecodedRoll::Roll(roll),
-        DecodedRoll::Refused(n) => DecodedRoll::Refused(n),
+        Ok(roll) => Ok(roll),
+        Err(n) => Err(n),
     }
 }
 
-pub fn decode_rap(payload: &[u8]) -> DecodedRap
+pub fn decode_rap(payload: &[u8]) -> Result<VisualRandomAccess, Refusal>
     ensures { told_rap result ≡ within payload.now (decode_rap payload.now) }
 {
-    match check_length(payload, 1) {
-        LengthCheck::Enough => {}
-        LengthCheck::Refused(n) => return DecodedRap::Refused(n),
-    }
+    check_length(payload, 1)?;
     let b = base_fields::read_u8(payload, 0);
-    DecodedRap::Rap(VisualRandomAccess {
+    Ok(VisualRandomAccess {
         num_leading_samples_known: 128 <= b,
         num_leading_samples: b % 128,
     })
 }
 
-pub fn decode_tele(payload: &[u8]) -> DecodedTele
+pub fn decode_tele(payload: &[u8]) -> Result<TemporalLevel, Refusal>
     ensures { told_tele result ≡ within payload.now (decode_tele payload.now) }
 {
-    match check_length(payload, 1) {
-        LengthCheck::Enough => {}
-        LengthCheck::Refused(n) => return DecodedTele::Refused(n),
-    }
+    check_length(payload, 1)?;
     let b = base_fields::read_u8(payload, 0);
-    DecodedTele::Tele(TemporalLevel {
+    Ok(TemporalLevel {
         level_independently_decodable: 128 <= b,
     })
 }
 
-pub fn decode_sap(payload: &[u8]) -> DecodedSap
+pub fn decode_sap(payload: &[u8]) -> Result<StreamAccessPoint, Refusal>
     ensures { told_sap result ≡ within payload.now (decode_sap payload.now) }
 {
-    match check_length(payload, 1) {
-        LengthCheck::Enough => {}
-        LengthCheck::Refused(n) => return DecodedSap::Refused(n),
-    }
+    check_length(payload, 1)?;
     let b = base_fields::read_u8(payload, 0);
-    DecodedSap::Sap(StreamAccessPoint {
+    Ok(StreamAccessPoint {
         dependent: 128 <= b,
         sap_type: b % 16,
     })

@@ -5,10 +5,10 @@ ghost use Rattle.base_fields.specs.Records.{numbers_of, GivesRecords};
 ghost use Rattle.group_entries.specs.Decoded.{decode_rash, rash_point, rash_points, point_at, point_count, up_to};
 ghost use Rattle.group_entries.specs.Told.{told_rash, told_point};
 
+use base_fields::refusal::Refusal;
 use super::{
-    DecodedRash, LengthCheck, RateShare, RateShareOperationPoint, ReadPoint, check_length,
+    RateShare, RateShareOperationPoint, check_length,
 };
-use base_fields::FilledRun;
 
 // Where the points end: a single one is a share alone.
 pub fn rash_points_end(count: u16) -> usize
@@ -21,25 +21,22 @@ pub fn rash_points_end(count: u16) -> usize
     }
 }
 
-pub fn decode_rash(payload: &[u8]) -> DecodedRash
+pub fn decode_rash(payload: &[u8]) -> Result<RateShare, Refusal>
     ensures { told_rash result ≡ within payload.now (decode_rash payload.now) }
 {
-    match check_length(payload, 2) {
-        LengthCheck::Enough => {}
-        LengthCheck::Refused(n) => return DecodedRash::Refused(n),
-    }
+    check_length(payload, 2)?;
     let count = base_fields::read_u16(payload, 0);
     if count == 0 {
-        return DecodedRash::Refused(41);
+        return Err(Refusal::NoPoints);
     }
     let end = rash_points_end(count);
     if payload.len() < end {
-        return DecodedRash::Refused(42);
+        return Err(Refusal::PointCut);
     }
     if payload.len() < end + 9 {
-        return DecodedRash::Refused(43);
+        return Err(Refusal::TrailerCut);
     }
-    DecodedRash::Rash(RateShare {
+    Ok(RateShare {
         operation_point_count: count,
         maximum_bitrate: base_fields::read_u32(payload, end),
         minimum_bitrate: base_fields::read_u32(payload, end + 4),
@@ -47,28 +44,25 @@ pub fn decode_rash(payload: &[u8]) -> DecodedRash
     })
 }
 
-pub fn rash_operation_point(payload: &[u8], k: u32) -> ReadPoint
+pub fn rash_operation_point(payload: &[u8], k: u32) -> Result<Option<RateShareOperationPoint>, Refusal>
     ensures { told_point result ≡ within payload.now (rash_point payload.now k) }
 {
-    let plain = match decode_rash(payload) {
-        DecodedRash::Rash(v) => v,
-        DecodedRash::Refused(n) => return ReadPoint::Refused(n),
-    };
+    let plain = decode_rash(payload)?;
     let count = plain.operation_point_count;
     if (count as u32) <= k {
-        return ReadPoint::Nothing;
+        return Ok(None);
     }
     if count == 1 {
-        return ReadPoint::Point(RateShareOperationPoint {
+        return Ok(Some(RateShareOperationPoint {
             available_bitrate: 0,
             target_rate_share: base_fields::read_u16(payload, 2),
-        });
+        }));
     }
     let at = 2 + 6 * (k as usize);
-    ReadPoint::Point(RateShareOperationPoint {
+    Ok(Some(RateShareOperationPoint {
         available_bitrate: base_fields::read_u32(payload, at),
         target_rate_share: base_fields::read_u16(payload, at + 4),
-    })
+    }))
 }
 
 // Writes the points, of which there are more than one, in front of the run.
@@ -89,23 +83,20 @@ fn put_points(payload: &[u8], count: usize, run: &mut [u32])
 }
 
 // The bitrate and the share of every point, in front of the lent run; a single point has the bitrate 0. Nothing is written on refusal.
-pub fn rash_operation_points(payload: &[u8], run: &mut [u32]) -> FilledRun
+pub fn rash_operation_points(payload: &[u8], run: &mut [u32]) -> Result<u32, Refusal>
     ensures { GivesRecords (within payload.now (rash_points payload.now run.old)) (λ p. p.bitrate) (λ p. p.share) run.old run.new result }
 {
-    let plain = match decode_rash(payload) {
-        DecodedRash::Rash(v) => v,
-        DecodedRash::Refused(n) => return FilledRun::Refused(n),
-    };
+    let plain = decode_rash(payload)?;
     let count = plain.operation_point_count;
     if run.len() / 2 < (count as usize) {
-        return FilledRun::Refused(29);
+        return Err(Refusal::NoRecordLeft);
     }
     if count == 1 {
         let share = base_fields::read_u16(payload, 2);
         run[0] = 0;
         run[1] = share as u32;
-        return FilledRun::Records(1);
+        return Ok(1);
     }
     put_points(payload, count as usize, run);
-    FilledRun::Records(count as u32)
+    Ok(count as u32)
 }

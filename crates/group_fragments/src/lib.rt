@@ -7,9 +7,9 @@ ghost use Rattle.group_sgpd.specs.Sgpd.{sgpd};
 ghost use Rattle.group_fragments.specs.Fragments.{local_bit, part_in, described_at, GivesDescribed, plain_index, rate_of};
 ghost use Rattle.group_fragments.specs.Told.{told_part};
 
+use base_fields::Part;
 use base_fields::{INPUT_LIMIT, bytes_at};
 use base_ids::DescriptionIndex;
-use group_sgpd::{FoundEntry, ParsedSgpd};
 
 // An index of a csgp in a fragment: the index alone, and whether its description is the fragment's own.
 #[derive(Clone, Copy)]
@@ -44,15 +44,15 @@ fn in_film(film: &[u8], fragment: &[u8], index: DescriptionIndex) -> FoundPart
     ensures { told_part result ≡ and_then (sgpd film.now) (λ wide. and_then (sgpd fragment.now) (λ own. part_in false wide index.0)) }
 {
     match group_sgpd::entry_place(film, index) {
-        FoundEntry::Entry(place, size) => match group_sgpd::parse_sgpd(fragment) {
-            ParsedSgpd::Description(_) => FoundPart::Film(place, size),
-            ParsedSgpd::Refused(n) => FoundPart::Refused(n),
+        Ok(Some(Part { place, size })) => match group_sgpd::parse_sgpd(fragment) {
+            Ok(_) => FoundPart::Film(place, size),
+            Err(n) => FoundPart::Refused(n),
         },
-        FoundEntry::Nothing => match group_sgpd::parse_sgpd(fragment) {
-            ParsedSgpd::Description(_) => FoundPart::Nothing,
-            ParsedSgpd::Refused(n) => FoundPart::Refused(n),
+        Ok(None) => match group_sgpd::parse_sgpd(fragment) {
+            Ok(_) => FoundPart::Nothing,
+            Err(n) => FoundPart::Refused(n),
         },
-        FoundEntry::Refused(n) => FoundPart::Refused(n),
+        Err(n) => FoundPart::Refused(n),
     }
 }
 
@@ -60,13 +60,13 @@ fn in_film(film: &[u8], fragment: &[u8], index: DescriptionIndex) -> FoundPart
 fn in_fragment(film: &[u8], fragment: &[u8], index: DescriptionIndex) -> FoundPart
     ensures { told_part result ≡ and_then (sgpd film.now) (λ wide. and_then (sgpd fragment.now) (λ own. part_in true own index.0)) }
 {
-    if let ParsedSgpd::Refused(n) = group_sgpd::parse_sgpd(film) {
+    if let Err(n) = group_sgpd::parse_sgpd(film) {
         return FoundPart::Refused(n);
     }
     match group_sgpd::entry_place(fragment, index) {
-        FoundEntry::Entry(place, size) => FoundPart::Fragment(place, size),
-        FoundEntry::Nothing => FoundPart::Nothing,
-        FoundEntry::Refused(n) => FoundPart::Refused(n),
+        Ok(Some(Part { place, size })) => FoundPart::Fragment(place, size),
+        Ok(None) => FoundPart::Nothing,
+        Err(n) => FoundPart::Refused(n),
     }
 }
 

@@ -4,7 +4,7 @@ ghost use Rattle.group_sgpd.specs.Head.{ReadWhole, OnEntry, GivesEntry};
 
 use super::lookup::found_at;
 use super::spans::{lengths_by, skip};
-use super::{EntryCursor, EntryStep, FoundEntry, Moved, SgpdHead};
+use super::{EntryCursor, EntryStep, SgpdHead};
 use base_ids::DescriptionIndex;
 
 // The entry of a number that the cursor has not passed.
@@ -23,7 +23,7 @@ pub(crate) fn entry_onward(
     let count = head.entry_count;
     let place = cursor.place;
     match skip(s, lengths, count, place, index.0 - cursor.index.0) {
-        Moved::At(at) => {
+        Ok(at) => {
             let found = found_at(s, lengths, count, at);
             EntryStep {
                 found,
@@ -31,8 +31,8 @@ pub(crate) fn entry_onward(
             }
         }
         // does not come up: the payload was read whole
-        Moved::Refused(n) => EntryStep {
-            found: FoundEntry::Refused(n),
+        Err(n) => EntryStep {
+            found: Err(n),
             cursor,
         },
     }

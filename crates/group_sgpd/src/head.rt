@@ -2,7 +2,8 @@
 ghost use Rattle.std.specs.Prelude.{◌≡◌, ◌≤◌, length};
 ghost use Rattle.group_sgpd.specs.Head.{head_at, told_head, entry_count_at};
 
-use super::{ReadHead, SgpdHead};
+use base_fields::refusal::Refusal;
+use super::{SgpdHead};
 use base_fields::INPUT_LIMIT;
 
 // The entry count at a place, behind the fields that the version has.
@@ -12,14 +13,14 @@ fn count_at(
     default_length: u32,
     default_sample_description_index: u32,
     at: usize,
-) -> ReadHead
+) -> Result<SgpdHead, Refusal>
     requires { (12 ≤ length s.now) × (at ≤ 16) }
     ensures { told_head result ≡ entry_count_at s.now version default_length default_sample_description_index at }
 {
     if s.len() < at + 4 {
-        return ReadHead::Refused(32);
+        return Err(Refusal::NoEntryCount);
     }
-    ReadHead::Head(SgpdHead {
+    Ok(SgpdHead {
         version,
         grouping_type: base_fields::read_u32(s, 4),
         default_length,
@@ -30,15 +31,15 @@ fn count_at(
 }
 
 // The fixed fields.
-pub(crate) fn sgpd_head(s: &[u8]) -> ReadHead
+pub(crate) fn sgpd_head(s: &[u8]) -> Result<SgpdHead, Refusal>
     ensures { told_head result ≡ head_at s.now }
 {
     let n = s.len();
     if INPUT_LIMIT < n {
-        return ReadHead::Refused(55);
+        return Err(Refusal::InputTooLong);
     }
     if n < 12 {
-        return ReadHead::Refused(30);
+        return Err(Refusal::ShortSgpd);
     }
     let version = base_fields::read_u8(s, 0);
     match version {
@@ -46,7 +47,7 @@ pub(crate) fn sgpd_head(s: &[u8]) -> ReadHead
         1 => count_at(s, version, base_fields::read_u32(s, 8), 0, 12),
         _ => {
             if n < 16 {
-                return ReadHead::Refused(31);
+                return Err(Refusal::NoDefaultIndex);
             }
             count_at(
                 s,

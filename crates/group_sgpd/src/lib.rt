@@ -14,6 +14,8 @@ ghost use Rattle.group_sgpd.specs.Sgpd.{parse_sgpd, sgpd};
 ghost use Rattle.group_sgpd.specs.Told.{told_sgpd};
 ghost use Rattle.group_sgpd.specs.Head.{head_of, told_head};
 
+use base_fields::refusal::Refusal;
+use base_fields::Part;
 use base_ids::DescriptionIndex;
 use head::sgpd_head;
 pub use lookup::{entry, entry_place};
@@ -31,20 +33,6 @@ pub struct SampleGroupDescription {
     pub entry_count: u32,
 }
 
-#[derive(Clone, Copy)]
-pub enum ParsedSgpd {
-    Description(SampleGroupDescription),
-    Refused(u32),
-}
-
-#[derive(Clone, Copy)]
-pub enum FoundEntry {
-    // The place and the length of the entry's bytes.
-    Entry(usize, usize),
-    Nothing,
-    Refused(u32),
-}
-
 // Where an entry starts: its number and its place.
 #[derive(Clone, Copy)]
 pub struct EntryCursor {
@@ -55,7 +43,7 @@ pub struct EntryCursor {
 // An entry, and the cursor from which the next one is looked for.
 #[derive(Clone, Copy)]
 pub struct EntryStep {
-    pub found: FoundEntry,
+    pub found: Result<Option<Part>, Refusal>,
     pub cursor: EntryCursor,
 }
 
@@ -70,12 +58,6 @@ pub struct SgpdHead {
     pub first: usize,
 }
 
-#[derive(Clone, Copy)]
-pub enum ReadHead {
-    Head(SgpdHead),
-    Refused(u32),
-}
-
 // What tells an entry's length.
 #[derive(Clone, Copy)]
 enum Lengths {
@@ -87,46 +69,29 @@ enum Lengths {
     Shared,
 }
 
-// An entry's place and length, wherever it stands in the order.
-#[derive(Clone, Copy)]
-enum Spanned {
-    Entry(usize, usize),
-    Refused(u32),
-}
-
-// The place behind some entries.
-#[derive(Clone, Copy)]
-enum Moved {
-    At(usize),
-    Refused(u32),
-}
-
 // The head, once the whole payload is read.
-pub fn read_sgpd(s: &[u8]) -> ReadHead
+pub fn read_sgpd(s: &[u8]) -> Result<SgpdHead, Refusal>
     ensures { told_head result ≡ and_then (sgpd s.now) (λ es. given (head_of s.now)) }
 {
-    let head = match sgpd_head(s) {
-        ReadHead::Head(h) => h,
-        ReadHead::Refused(n) => return ReadHead::Refused(n),
-    };
+    let head = sgpd_head(s)?;
     match skip_all(s, head) {
-        Moved::At(_) => ReadHead::Head(head),
-        Moved::Refused(n) => ReadHead::Refused(n),
+        Ok(_) => Ok(head),
+        Err(n) => Err(n),
     }
 }
 
 // Reads a whole sgpd payload.
-pub fn parse_sgpd(s: &[u8]) -> ParsedSgpd
+pub fn parse_sgpd(s: &[u8]) -> Result<SampleGroupDescription, Refusal>
     ensures { told_sgpd result ≡ parse_sgpd s.now }
 {
     match read_sgpd(s) {
-        ReadHead::Head(h) => ParsedSgpd::Description(SampleGroupDescription {
+        Ok(h) => Ok(SampleGroupDescription {
             version: h.version,
             grouping_type: h.grouping_type,
             default_length: h.default_length,
             default_sample_description_index: h.default_sample_description_index,
             entry_count: h.entry_count,
         }),
-        ReadHead::Refused(n) => ParsedSgpd::Refused(n),
+        Err(n) => Err(n),
     }
 }

@@ -6,25 +6,27 @@ ghost use Rattle.base_fields.specs.Span.{GivesPart};
 ghost use Rattle.group_sgpd.specs.Told.{told_entry};
 ghost use Rattle.group_sgpd.specs.Head.{HeadOf, Among};
 
+use base_fields::refusal::Refusal;
+use base_fields::Part;
 use super::head::sgpd_head;
 use super::spans::{lengths_by, skip, skip_all, span_at};
-use super::{FoundEntry, Lengths, Moved, ReadHead, SgpdHead, Spanned};
+use super::{Lengths, SgpdHead};
 use base_fields::bytes_at;
 use base_ids::DescriptionIndex;
 
-pub(crate) fn found_at(s: &[u8], lengths: Lengths, count: u32, at: usize) -> FoundEntry
+pub(crate) fn found_at(s: &[u8], lengths: Lengths, count: u32, at: usize) -> Result<Option<Part>, Refusal>
     requires among { Among s.now lengths count at }
     requires count_nonzero { 0 < count }
     ensures { told_entry result ≡ span_at s.now at }
 {
     match span_at(s, lengths, count, at) {
-        Spanned::Entry(place, size) => FoundEntry::Entry(place, size),
-        Spanned::Refused(n) => FoundEntry::Refused(n),
+        Ok(Part { place, size }) => Ok(Some(Part { place, size })),
+        Err(n) => Err(n),
     }
 }
 
 // An entry within the count: those before it, then it and those behind it, so that the bytes are read once.
-fn entry_within(s: &[u8], head: SgpdHead, index: DescriptionIndex) -> FoundEntry
+fn entry_within(s: &[u8], head: SgpdHead, index: DescriptionIndex) -> Result<Option<Part>, Refusal>
     requires head_of { HeadOf s.now head }
     requires index_nonzero { (0 < index.0) × (index.0 ≤ head.entry_count) }
     ensures { told_entry result ≡ and_then (spans (entry_count_of s.now) s.now (entry_count_place s.now + 4)) (λ es. pick es index.0) }
@@ -32,36 +34,30 @@ fn entry_within(s: &[u8], head: SgpdHead, index: DescriptionIndex) -> FoundEntry
     let lengths = lengths_by(head.version, head.grouping_type, head.default_length);
     let count = head.entry_count;
     let before = index.0 - 1;
-    let at = match skip(s, lengths, count, head.first, before) {
-        Moved::At(p) => p,
-        Moved::Refused(n) => return FoundEntry::Refused(n),
-    };
+    let at = skip(s, lengths, count, head.first, before)?;
     match skip(s, lengths, count, at, count - before) {
-        Moved::At(_) => found_at(s, lengths, count, at),
-        Moved::Refused(n) => FoundEntry::Refused(n),
+        Ok(_) => found_at(s, lengths, count, at),
+        Err(n) => Err(n),
     }
 }
 
 // A number that is none of the entries'.
-fn no_entry(s: &[u8], head: SgpdHead, index: DescriptionIndex) -> FoundEntry
+fn no_entry(s: &[u8], head: SgpdHead, index: DescriptionIndex) -> Result<Option<Part>, Refusal>
     requires head_of { HeadOf s.now head }
     requires entry_count_bound { 0 < index.0 → head.entry_count < index.0 }
     ensures { told_entry result ≡ and_then (spans (entry_count_of s.now) s.now (entry_count_place s.now + 4)) (λ es. pick es index.0) }
 {
     match skip_all(s, head) {
-        Moved::At(_) => FoundEntry::Nothing,
-        Moved::Refused(n) => FoundEntry::Refused(n),
+        Ok(_) => Ok(None),
+        Err(n) => Err(n),
     }
 }
 
 // The place and the length of an entry, once the whole payload is read.
-pub fn entry_place(s: &[u8], index: DescriptionIndex) -> FoundEntry
+pub fn entry_place(s: &[u8], index: DescriptionIndex) -> Result<Option<Part>, Refusal>
     ensures { told_entry result ≡ entry_at s.now index.0 }
 {
-    let head = match sgpd_head(s) {
-        ReadHead::Head(h) => h,
-        ReadHead::Refused(n) => return FoundEntry::Refused(n),
-    };
+    let head = sgpd_head(s)?;
     let i = index.0;
     if i == 0 {
         return no_entry(s, head, index);
@@ -77,8 +73,8 @@ pub fn entry(s: &[u8], index: DescriptionIndex) -> &[u8]
     ensures { GivesPart (entry_at s.now index.0) s.now s.entry.ref_ptr result.now result.ref_ptr }
 {
     match entry_place(s, index) {
-        FoundEntry::Entry(at, size) => bytes_at(s, at, size),
-        FoundEntry::Nothing => bytes_at(s, 0, 0),
-        FoundEntry::Refused(_) => bytes_at(s, 0, 0),
+        Ok(Some(Part { place: at, size })) => bytes_at(s, at, size),
+        Ok(None) => bytes_at(s, 0, 0),
+        Err(_) => bytes_at(s, 0, 0),
     }
 }

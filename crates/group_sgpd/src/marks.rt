@@ -5,9 +5,11 @@ ghost use Rattle.group_sgpd.specs.Told.{told_entry};
 ghost use Rattle.group_sgpd.specs.Head.{ReadWhole};
 ghost use Rattle.group_sgpd.specs.Marks.{marks_apart, Marks};
 
+use base_fields::refusal::Refusal;
+use base_fields::Part;
 use super::cursor::entry_onward;
 use super::spans::{lengths_by, skip};
-use super::{EntryCursor, FoundEntry, Moved, SgpdHead};
+use super::{EntryCursor, SgpdHead};
 use base_ids::DescriptionIndex;
 
 // How many landmarks there are.
@@ -38,12 +40,12 @@ pub fn entry_marks(s: &[u8], head: SgpdHead) -> [u32; 16]
             return marks;
         }
         match skip(s, lengths, count, at, apart) {
-            Moved::At(p) => {
+            Ok(p) => {
                 at = p;
                 left = left - apart;
                 k = k + 1;
             }
-            Moved::Refused(_) => return marks,
+            Err(_) => return marks,
         }
     }
     marks
@@ -55,16 +57,16 @@ pub fn marked_entry(
     head: SgpdHead,
     marks: &[u32; 16],
     index: DescriptionIndex,
-) -> FoundEntry
+) -> Result<Option<Part>, Refusal>
     requires { (ReadWhole s.now head) × (Marks s.now marks.now) }
     ensures { told_entry result ≡ entry_at s.now index.0 }
 {
     let i = index.0;
     if i == 0 {
-        return FoundEntry::Nothing;
+        return Ok(None);
     }
     if head.entry_count < i {
-        return FoundEntry::Nothing;
+        return Ok(None);
     }
     let apart = marks_apart(head.entry_count);
     let k = (i - 1) / apart;

@@ -5,9 +5,10 @@ ghost use Rattle.base_fields.specs.Records.{numbers_of, GivesRecords};
 ghost use Rattle.group_sgpd.specs.Sgpd.{sgpd, all_entries};
 ghost use Rattle.group_sgpd.specs.Head.{ReadWhole};
 
+use base_fields::refusal::Refusal;
+use base_fields::Part;
 use super::spans::{lengths_by, span_at};
-use super::{ReadHead, SgpdHead, Spanned, read_sgpd};
-use base_fields::FilledRun;
+use super::{SgpdHead, read_sgpd};
 
 // Writes place and length of each entry in front of the run.
 fn put_places(s: &[u8], head: SgpdHead, run: &mut [u32])
@@ -21,30 +22,27 @@ fn put_places(s: &[u8], head: SgpdHead, run: &mut [u32])
     let mut k: u32 = 0;
     while k < count {
         match span_at(s, lengths, count, at) {
-            Spanned::Entry(place, size) => {
+            Ok(Part { place, size }) => {
                 let i = 2 * (k as usize);
                 run[i] = place as u32;
                 run[i + 1] = size as u32;
                 at = place + size;
                 k = k + 1;
             }
-            Spanned::Refused(_) => return,
+            Err(_) => return,
         }
     }
 }
 
 // The place and the length of every entry, in front of the lent run. Nothing is written on refusal.
-pub fn entry_places(s: &[u8], run: &mut [u32]) -> FilledRun
+pub fn entry_places(s: &[u8], run: &mut [u32]) -> Result<u32, Refusal>
     ensures { GivesRecords (all_entries s.now run.old) (λ e. e.place) (λ e. e.size) run.old run.new result }
 {
-    let head = match read_sgpd(s) {
-        ReadHead::Head(h) => h,
-        ReadHead::Refused(n) => return FilledRun::Refused(n),
-    };
+    let head = read_sgpd(s)?;
     let count = head.entry_count;
     if run.len() / 2 < (count as usize) {
-        return FilledRun::Refused(29);
+        return Err(Refusal::NoRecordLeft);
     }
     put_places(s, head, run);
-    FilledRun::Records(count)
+    Ok(count)
 }

@@ -4,7 +4,9 @@ ghost use Rattle.group_sgpd.specs.Sgpd.{implicit_length, entry_count_of, span_at
 ghost use Rattle.group_sgpd.specs.Head.{lengths_by, told_span, whole, after, told_move, HeadOf, Among};
 ghost use Rattle.group_sgpd.specs.declared.Lengths.TheVariants.{Prefixed, Shared};
 
-use super::{Lengths, Moved, SgpdHead, Spanned};
+use base_fields::refusal::Refusal;
+use base_fields::Part;
+use super::{Lengths, SgpdHead};
 
 // The length that version 0 gives the entries of a type; 0 where it gives none.
 fn implicit_length(grouping_type: u32) -> u32
@@ -38,18 +40,18 @@ pub(crate) fn lengths_by(version: u8, grouping_type: u32, default_length: u32) -
     }
 }
 
-fn whole_entry(s: &[u8], place: usize, size: usize) -> Spanned
+fn whole_entry(s: &[u8], place: usize, size: usize) -> Result<Part, Refusal>
     requires { place ≤ length s.now }
     ensures { told_span result ≡ whole s.now place size }
 {
     if s.len() - place < size {
-        return Spanned::Refused(35);
+        return Err(Refusal::EntryCut);
     }
-    Spanned::Entry(place, size)
+    Ok(Part { place, size })
 }
 
 // The entry at a place.
-pub(crate) fn span_at(s: &[u8], lengths: Lengths, count: u32, at: usize) -> Spanned
+pub(crate) fn span_at(s: &[u8], lengths: Lengths, count: u32, at: usize) -> Result<Part, Refusal>
     requires among { Among s.now lengths count at }
     requires count_nonzero { 0 < count }
     ensures { told_span result ≡ span_at s.now at }
@@ -59,14 +61,14 @@ pub(crate) fn span_at(s: &[u8], lengths: Lengths, count: u32, at: usize) -> Span
         Lengths::Fixed(k) => whole_entry(s, at, k as usize),
         Lengths::Prefixed => {
             if left < 4 {
-                return Spanned::Refused(33);
+                return Err(Refusal::NoEntryLength);
             }
             whole_entry(s, at + 4, base_fields::read_u32(s, at) as usize)
         }
         Lengths::Shared => {
             let size = left as u32 / count;
             if size == 0 {
-                return Spanned::Refused(34);
+                return Err(Refusal::ZeroShare);
             }
             whole_entry(s, at, size as usize)
         }
@@ -74,7 +76,7 @@ pub(crate) fn span_at(s: &[u8], lengths: Lengths, count: u32, at: usize) -> Span
 }
 
 // The place behind n entries, each with its length before it. Bytes are counted in 32 bits, which a controller handles at once.
-fn skip_prefixed(s: &[u8], at: usize, n: u32) -> Moved
+fn skip_prefixed(s: &[u8], at: usize, n: u32) -> Result<usize, Refusal>
     requires { Among s.now Prefixed (entry_count_of s.now) at }
     ensures { told_move result ≡ after n s.now at }
 {
@@ -82,21 +84,21 @@ fn skip_prefixed(s: &[u8], at: usize, n: u32) -> Moved
     let mut left = n;
     while 0 < left {
         if bytes < 4 {
-            return Moved::Refused(33);
+            return Err(Refusal::NoEntryLength);
         }
         let size = base_fields::read_u32(s, s.len() - bytes as usize);
         if bytes - 4 < size {
-            return Moved::Refused(35);
+            return Err(Refusal::EntryCut);
         }
         bytes = bytes - 4 - size;
         left = left - 1;
     }
-    Moved::At(s.len() - bytes as usize)
+    Ok(s.len() - bytes as usize)
 }
 
 // The place behind n entries that share the bytes. A share stays for as long as the division's rest pays for the entries before: those
 // entries are passed at once, so there are as many steps as different shares.
-fn skip_shared(s: &[u8], count: u32, at: usize, n: u32) -> Moved
+fn skip_shared(s: &[u8], count: u32, at: usize, n: u32) -> Result<usize, Refusal>
     requires among { Among s.now Shared count at }
     requires n_le_count { n ≤ count }
     ensures { told_move result ≡ after n s.now at }
@@ -106,18 +108,18 @@ fn skip_shared(s: &[u8], count: u32, at: usize, n: u32) -> Moved
     while 0 < left {
         let share = bytes / count;
         if share == 0 {
-            return Moved::Refused(34);
+            return Err(Refusal::ZeroShare);
         }
         let alike = bytes % count / share + 1;
         let passed = if left < alike { left } else { alike };
         bytes = bytes - passed * share;
         left = left - passed;
     }
-    Moved::At(s.len() - bytes as usize)
+    Ok(s.len() - bytes as usize)
 }
 
 // The place behind n entries; a product where they have one length.
-pub(crate) fn skip(s: &[u8], lengths: Lengths, count: u32, at: usize, n: u32) -> Moved
+pub(crate) fn skip(s: &[u8], lengths: Lengths, count: u32, at: usize, n: u32) -> Result<usize, Refusal>
     requires among { Among s.now lengths count at }
     requires n_le_count { n ≤ count }
     ensures { told_move result ≡ after n s.now at }
@@ -126,9 +128,9 @@ pub(crate) fn skip(s: &[u8], lengths: Lengths, count: u32, at: usize, n: u32) ->
         Lengths::Fixed(k) => {
             let size = (n as usize) * (k as usize);
             if s.len() - at < size {
-                return Moved::Refused(35);
+                return Err(Refusal::EntryCut);
             }
-            Moved::At(at + size)
+            Ok(at + size)
         }
         Lengths::Prefixed => skip_prefixed(s, at, n),
         Lengths::Shared => skip_shared(s, count, at, n),
@@ -136,7 +138,7 @@ pub(crate) fn skip(s: &[u8], lengths: Lengths, count: u32, at: usize, n: u32) ->
 }
 
 // The place behind all entries.
-pub(crate) fn skip_all(s: &[u8], head: SgpdHead) -> Moved
+pub(crate) fn skip_all(s: &[u8], head: SgpdHead) -> Result<usize, Refusal>
     requires { HeadOf s.now head }
     ensures { told_move result ≡ after (entry_count_of s.now) s.now (entry_count_place s.now + 4) }
 {

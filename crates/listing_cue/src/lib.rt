@@ -13,12 +13,13 @@ ghost use Rattle.listing_spec.specs.Cue.{cue_call};
 ghost use Rattle.listing_cue.specs.Told.{GivesCue};
 ghost use Rattle.listing_cue.specs.From.{GivesListed};
 
+use base_fields::refusal::Refusal;
 use base_fields::bytes_at;
 use base_ids::{RECORD_NUMBERS, RowNumber};
 use group_sgpd::{SgpdHead, entry_marks};
-use listing_group::{OpenGroup, Records, open_group};
-use listing_meanings::{Checked, check_used};
-use listing_measure::{MeasuredListing, measure_listing};
+use listing_group::{open_group};
+use listing_meanings::{check_used};
+use listing_measure::{measure_listing};
 use table_records::write_rows;
 use table_runs::{SampleTable, count_samples};
 use write::write_listing;
@@ -28,12 +29,6 @@ use write::write_listing;
 pub struct CueLengths {
     pub listing: usize,
     pub rows: usize,
-}
-
-#[derive(Clone, Copy)]
-pub enum CueListing {
-    Listing(CueLengths),
-    Refused(u32),
 }
 
 // The table and the descriptions are read, and the table's rows find records enough: the decoders' refusals, and 54; then both are written.
@@ -46,15 +41,13 @@ fn list_samples(
     grouping_type: u32,
     rows: &mut [RowNumber],
     out: &mut [u8],
-) -> CueListing
+) -> Result<CueLengths, Refusal>
     requires whole_in { (WholeIn table_s.now table (all_in table)) × (LaidIn table_s.now table) × (ReadWhole s.now head) }
     requires rows_value { (x : Table) × (table_from table_s.now table (records_in rows.old) ≡ given x) × (length x.rows ≡ count) }
     ensures { GivesListed table_s.now table s.now grouping_type rows.old rows.new out.old out.new result }
 {
     let marks = entry_marks(s, head);
-    if let Checked::Refused(n) = check_used(table_s, table, s, head, &marks, grouping_type) {
-        return CueListing::Refused(n);
-    }
+    check_used(table_s, table, s, head, &marks, grouping_type)?;
     let samples = count_samples(table_s, table);
     let limit = out.len();
     let listing = match measure_listing(
@@ -68,13 +61,13 @@ fn list_samples(
         &mut out[..0],
         limit,
     ) {
-        MeasuredListing::Bytes(n) => n,
-        MeasuredListing::Over => return CueListing::Refused(54),
+        Some(n) => n,
+        None => return Err(Refusal::OutputTooShort),
     };
     write_rows(table_s, table, rows);
     let end = RECORD_NUMBERS * count;
     write_listing(grouping_type, s, head, &marks, &rows[..end], samples, out);
-    CueListing::Listing(CueLengths {
+    Ok(CueLengths {
         listing,
         rows: count,
     })
@@ -86,14 +79,11 @@ pub fn cue_listing(
     grouping_type: u32,
     rows: &mut [RowNumber],
     out: &mut [u8],
-) -> CueListing
+) -> Result<CueLengths, Refusal>
     ensures { GivesCue (cue_call body.now grouping_type rows.old out.old) rows.old rows.new out.old out.new result }
 {
     let lent = rows.len() / RECORD_NUMBERS;
-    let group = match open_group(body, grouping_type, Records::Lent(lent)) {
-        OpenGroup::Group(g) => g,
-        OpenGroup::Refused(n) => return CueListing::Refused(n),
-    };
+    let group = open_group(body, grouping_type, Some(lent))?;
     let table = group.table;
     let head = group.head;
     let table_s = bytes_at(body, group.table_place, group.table_size);

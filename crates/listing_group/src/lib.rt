@@ -11,21 +11,14 @@ ghost use Rattle.table_needed.specs.Needed.{unlimited};
 ghost use Rattle.listing_group.specs.Opened.{room_of, count_of, GivesGroup};
 ghost use Rattle.listing_group.specs.Told.{told_counts, told_counted};
 
+use base_fields::refusal::Refusal;
 use base_fields::bytes_at;
 use base_ids::COUNT_LIMIT;
-use group_sgpd::{ReadHead, SgpdHead, read_sgpd};
-use listing_walk::{FoundSources, find_sources};
-use table_csgp::measure::Measured;
+use group_sgpd::{SgpdHead, read_sgpd};
+use listing_walk::{find_sources};
 use table_needed::UNLIMITED;
 use table_records::count_rows;
-use table_runs::{ReadTable, SampleTable, count_samples, read_table};
-
-// The records for a table's rows: so many are lent, or the rows are not written, and 29 cannot arise.
-#[derive(Clone, Copy)]
-pub enum Records {
-    Lent(usize),
-    Enough,
-}
+use table_runs::{SampleTable, count_samples, read_table};
 
 // Where the payloads of the table and of the sgpd stand in the body, and what was read of them.
 #[derive(Clone, Copy)]
@@ -40,83 +33,52 @@ pub struct GroupAt {
     pub head: SgpdHead,
 }
 
-#[derive(Clone, Copy)]
-pub enum OpenGroup {
-    Group(GroupAt),
-    Refused(u32),
-}
-
-// Whether a table's rows can be made.
-#[derive(Clone, Copy)]
-enum CheckedCounts {
-    Fit,
-    Refused(u32),
-}
-
-#[derive(Clone, Copy)]
-enum Counted {
-    Count(u64),
-    Refused(u32),
-}
-
 // 28, where the count of a row would pass its limit. In a table that covers no more samples than that limit none does, and its rows need not be
 // counted.
-fn check_counts(table_s: &[u8], table: SampleTable, covered: u64) -> CheckedCounts
+fn check_counts(table_s: &[u8], table: SampleTable, covered: u64) -> Result<(), Refusal>
     requires { (LaidIn table_s.now table) × (covered ≡ covered_by (ahead_in table_s.now table (all_in table))) }
     ensures { told_counts result ≡ and_then (table_from table_s.now table unlimited) (λ x. given tt) }
 {
     if covered <= COUNT_LIMIT as u64 {
-        return CheckedCounts::Fit;
+        return Ok(());
     }
     match count_rows(table_s, table, UNLIMITED) {
-        Measured::Rows(_) => CheckedCounts::Fit,
-        Measured::Refused(n) => CheckedCounts::Refused(n),
+        Ok(_) => Ok(()),
+        Err(n) => Err(n),
     }
 }
 
 // 28, 29; else what is counted of the table.
-fn count_table(table_s: &[u8], table: SampleTable, records: Records) -> Counted
+fn count_table(table_s: &[u8], table: SampleTable, records: Option<usize>) -> Result<u64, Refusal>
     requires { (WholeIn table_s.now table (all_in table)) × (LaidIn table_s.now table) }
     ensures { told_counted result ≡ and_then (table_from table_s.now table (room_of records)) (λ x. given (count_of records x.rows (ahead_in table_s.now table (all_in table)))) }
 {
     match records {
-        Records::Lent(room) => match count_rows(table_s, table, room) {
-            Measured::Rows(n) => Counted::Count(n as u64),
-            Measured::Refused(n) => Counted::Refused(n),
+        Some(room) => match count_rows(table_s, table, room) {
+            Ok(n) => Ok(n as u64),
+            Err(n) => Err(n),
         },
-        Records::Enough => {
+        None => {
             let covered = count_samples(table_s, table);
             match check_counts(table_s, table, covered) {
-                CheckedCounts::Fit => Counted::Count(covered),
-                CheckedCounts::Refused(n) => Counted::Refused(n),
+                Ok(()) => Ok(covered),
+                Err(n) => Err(n),
             }
         }
     }
 }
 
 // Opens the group: the walk's refusals, the table's, those of its rows, the sgpd's.
-pub fn open_group(body: &[u8], grouping_type: u32, records: Records) -> OpenGroup
+pub fn open_group(body: &[u8], grouping_type: u32, records: Option<usize>) -> Result<GroupAt, Refusal>
     ensures { GivesGroup body.now grouping_type records result }
 {
-    let found = match find_sources(body, grouping_type) {
-        FoundSources::Sources(f) => f,
-        FoundSources::Refused(n) => return OpenGroup::Refused(n),
-    };
+    let found = find_sources(body, grouping_type)?;
     let kind = found.kind;
     let table_s = bytes_at(body, found.table_place, found.table_size);
-    let table = match read_table(table_s, kind) {
-        ReadTable::Table(t) => t,
-        ReadTable::Refused(n) => return OpenGroup::Refused(n),
-    };
-    let count = match count_table(table_s, table, records) {
-        Counted::Count(n) => n,
-        Counted::Refused(n) => return OpenGroup::Refused(n),
-    };
-    let head = match read_sgpd(bytes_at(body, found.sgpd_place, found.sgpd_size)) {
-        ReadHead::Head(h) => h,
-        ReadHead::Refused(n) => return OpenGroup::Refused(n),
-    };
-    OpenGroup::Group(GroupAt {
+    let table = read_table(table_s, kind)?;
+    let count = count_table(table_s, table, records)?;
+    let head = read_sgpd(bytes_at(body, found.sgpd_place, found.sgpd_size))?;
+    Ok(GroupAt {
         table_place: found.table_place,
         table_size: found.table_size,
         table,

@@ -10,34 +10,28 @@ ghost use Rattle.listing_theorem.specs.Samples.{meaning_of};
 ghost use Rattle.listing_spec.specs.Table.{entries_of};
 ghost use Rattle.listing_meanings.specs.Meant.{meant_at, InsideAt, meaning_in, told_checked, HasMeaning, GivesChecked};
 
-use super::{Checked, MeaningAt, meaning_at};
+use base_fields::refusal::Refusal;
+use super::{MeaningAt, meaning_at};
 use base_fields::bytes_at;
 use base_ids::DescriptionIndex;
-use group_alike::{Front, front_of};
+use group_alike::{front_of};
 use group_sgpd::SgpdHead;
 use table_patterns::{PatternAt, index_at, used_positions};
-use table_runs::{NextPattern, SampleTable, first_pattern, next_pattern};
-
-// The used positions of a pattern: its last index, or the first refusal.
-#[derive(Clone, Copy)]
-enum CheckedPattern {
-    Passed(DescriptionIndex),
-    Refused(u32),
-}
+use table_runs::{SampleTable, first_pattern, next_pattern};
 
 // Whether a meaning decodes.
-fn check_meaning(grouping_type: u32, s: &[u8], meaning: MeaningAt) -> Checked
+fn check_meaning(grouping_type: u32, s: &[u8], meaning: MeaningAt) -> Result<(), Refusal>
     requires { (length s.now ≤ input_limit) × (InsideAt s.now meaning) }
     ensures { told_checked result ≡ and_then (meant_at grouping_type s.now meaning) (λ v. given tt) }
 {
     match meaning {
-        MeaningAt::Outside => Checked::Passed,
-        MeaningAt::Missing => Checked::Passed,
+        MeaningAt::Outside => Ok(()),
+        MeaningAt::Missing => Ok(()),
         MeaningAt::Entry(place, size) => {
             let layout = group_entries::layout_of(grouping_type);
             match front_of(layout, bytes_at(s, place, size)) {
-                Front::Bytes(_) => Checked::Passed,
-                Front::Refused(n) => Checked::Refused(n),
+                Ok(_) => Ok(()),
+                Err(n) => Err(n),
             }
         }
     }
@@ -51,12 +45,12 @@ fn check_index(
     grouping_type: u32,
     last: DescriptionIndex,
     index: DescriptionIndex,
-) -> Checked
+) -> Result<(), Refusal>
     requires { (ReadWhole s.now head) × (Marks s.now marks.now) × (HasMeaning grouping_type s.now last.0) }
     ensures { told_checked result ≡ and_then (meaning_in grouping_type s.now index.0) (λ v. given tt) }
 {
     if index.0 == last.0 {
-        return Checked::Passed;
+        return Ok(());
     }
     check_meaning(grouping_type, s, meaning_at(s, head, marks, index))
 }
@@ -70,7 +64,7 @@ fn check_pattern(
     marks: &[u32; 16],
     grouping_type: u32,
     before: DescriptionIndex,
-) -> CheckedPattern
+) -> Result<DescriptionIndex, Refusal>
     requires { (Stands table_s.now pattern) × (ReadWhole s.now head) × (Marks s.now marks.now) × (HasMeaning grouping_type s.now before.0) }
     ensures { GivesChecked grouping_type s.now (pattern_in table_s.now pattern) result }
 {
@@ -80,14 +74,14 @@ fn check_pattern(
     while i < used {
         let index = index_at(table_s, pattern, i);
         match check_index(s, head, marks, grouping_type, last, index) {
-            Checked::Passed => {
+            Ok(()) => {
                 last = index;
                 i = i + 1;
             }
-            Checked::Refused(n) => return CheckedPattern::Refused(n),
+            Err(n) => return Err(n),
         }
     }
-    CheckedPattern::Passed(last)
+    Ok(last)
 }
 
 // The decoders' refusals, for each entry that a sample uses, in sample order: asked of the used positions of each pattern.
@@ -98,7 +92,7 @@ pub fn check_used(
     head: SgpdHead,
     marks: &[u32; 16],
     grouping_type: u32,
-) -> Checked
+) -> Result<(), Refusal>
     requires { (WholeIn table_s.now table (all_in table)) × (ReadWhole s.now head) × (Marks s.now marks.now) }
     ensures { (entries : List (List ℕ)) → entries_of s.now ≡ given entries
         → told_checked result ≡ first_refusal (meaning_of grouping_type entries) (used_in (ahead_in table_s.now table (all_in table))) }
@@ -107,16 +101,16 @@ pub fn check_used(
     let mut last = DescriptionIndex(0);
     loop {
         match next_pattern(table_s, table, here) {
-            NextPattern::Pattern(pattern, behind) => {
+            Some((pattern, behind)) => {
                 match check_pattern(table_s, pattern, s, head, marks, grouping_type, last) {
-                    CheckedPattern::Passed(index) => {
+                    Ok(index) => {
                         here = behind;
                         last = index;
                     }
-                    CheckedPattern::Refused(n) => return Checked::Refused(n),
+                    Err(n) => return Err(n),
                 }
             }
-            NextPattern::End => return Checked::Passed,
+            None => return Ok(()),
         }
     }
 }

@@ -9,9 +9,10 @@ ghost use Rattle.group_sgpd.specs.Head.{ReadWhole};
 ghost use Rattle.group_sgpd.specs.Marks.{Marks};
 ghost use Rattle.listing_meanings.specs.Meant.{GivesMeaning};
 
+use base_fields::Part;
 use base_ids::DescriptionIndex;
 pub use check::check_used;
-use group_sgpd::{FoundEntry, SgpdHead, marked_entry};
+use group_sgpd::{SgpdHead, marked_entry};
 pub use likeness::like;
 
 // What an index means: no entry (index 0), an index past the entries, or an entry's place and length in the sgpd's payload.
@@ -20,12 +21,6 @@ pub enum MeaningAt {
     Outside,
     Missing,
     Entry(usize, usize),
-}
-
-#[derive(Clone, Copy)]
-pub enum Checked {
-    Passed,
-    Refused(u32),
 }
 
 // The meaning of an index, from the landmarks of a payload that was read whole.
@@ -37,9 +32,9 @@ pub fn meaning_at(s: &[u8], head: SgpdHead, marks: &[u32; 16], index: Descriptio
         return MeaningAt::Outside;
     }
     match marked_entry(s, head, marks, index) {
-        FoundEntry::Entry(place, size) => MeaningAt::Entry(place, size),
-        FoundEntry::Nothing => MeaningAt::Missing,
+        Ok(Some(Part { place, size })) => MeaningAt::Entry(place, size),
+        Ok(None) => MeaningAt::Missing,
         // does not come up: the payload was read whole
-        FoundEntry::Refused(_) => MeaningAt::Missing,
+        Err(_) => MeaningAt::Missing,
     }
 }

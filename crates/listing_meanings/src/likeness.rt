@@ -5,7 +5,7 @@ ghost use Rattle.listing_meanings.specs.Meant.{entry_meaning, Means, GivesLike};
 
 use super::MeaningAt;
 use base_fields::bytes_at;
-use group_alike::{Alike, decode_alike};
+use group_alike::{decode_alike};
 
 // Whether two entries decode to the same value: those at one place without a look.
 fn entries_like(
@@ -27,10 +27,10 @@ fn entries_like(
     let entry = bytes_at(s, place, size);
     let other = bytes_at(s, other_place, other_size);
     match decode_alike(grouping_type, entry, other) {
-        Alike::Same => true,
-        Alike::Different => false,
+        Ok(true) => true,
+        Ok(false) => false,
         // does not come up: both entries decode
-        Alike::Refused(_) => false,
+        Err(_) => false,
     }
 }
 

@@ -15,26 +15,11 @@ ghost use Rattle.listing_measure.specs.Measured.{PatternMeans, AllMean, GivesMea
 use base_ids::{DescriptionIndex, PatternCount};
 use group_sgpd::SgpdHead;
 use listing_stretches::{
-    Mark, Passed, Progress, begin_listing, close_stretch, enter_run, pass_periods,
+    Mark, Progress, begin_listing, close_stretch, enter_run, pass_periods,
 };
 use table_patterns::PatternAt;
 use table_patterns::run::run_at;
-use table_runs::{NextPattern, SampleTable, first_pattern, next_pattern};
-
-#[derive(Clone, Copy)]
-pub enum Measuring {
-    // What is in hand behind a pattern.
-    Next(Progress),
-    // The listing passes the limit.
-    Over,
-}
-
-#[derive(Clone, Copy)]
-pub enum MeasuredListing {
-    Bytes(usize),
-    // The listing passes the limit.
-    Over,
-}
+use table_runs::{SampleTable, first_pattern, next_pattern};
 
 // The samples of a pattern, run by run, with whole periods passed in one step.
 fn measure_pattern(
@@ -48,7 +33,7 @@ fn measure_pattern(
     out: &mut [u8],
     progress: Progress,
     limit: usize,
-) -> Measuring
+) -> Option<Progress>
     requires stands { (Stands table_s.now pattern) × (ReadWhole s.now head) × (Marks s.now marks.now) }
     requires pattern_means { (PatternMeans grouping_type s.now (pattern_in table_s.now pattern)) × (InHand grouping_type s.now progress) × (Recalls grouping_type s.now progress memory.old) }
     requires at_le_limit { (progress.hand.at ≤ limit) × (limit ≤ output_limit) × (progress.hand.samples + pattern.count ≤ covered_limit) }
@@ -78,10 +63,10 @@ fn measure_pattern(
         );
         let hand = entered.hand;
         if limit < hand.at {
-            return Measuring::Over;
+            return None;
         }
         match pass_periods(mark, hand, k + run.count, pattern.length, count, limit) {
-            Passed::On(next, sample, to) => {
+            Some((next, sample, to)) => {
                 let meaning = entered.meaning;
                 let kept = entered.kept;
                 here = Progress {
@@ -92,10 +77,10 @@ fn measure_pattern(
                 k = sample;
                 mark = to;
             }
-            Passed::Over => return Measuring::Over,
+            None => return None,
         }
     }
-    Measuring::Next(here)
+    Some(here)
 }
 
 // Behind the last sample.
@@ -105,15 +90,15 @@ fn measure_end(
     out: &mut [u8],
     progress: Progress,
     limit: usize,
-) -> MeasuredListing
+) -> Option<usize>
     requires { ((h : SgpdHead) × ReadWhole s.now h) × (InHand grouping_type s.now progress) × (progress.hand.at ≤ output_limit) }
     ensures { GivesEnd grouping_type s.now progress limit result }
 {
     let end = close_stretch(grouping_type, s, out, progress);
     if limit < end {
-        return MeasuredListing::Over;
+        return None;
     }
-    MeasuredListing::Bytes(end)
+    Some(end)
 }
 
 // The length of the listing of a table that covers `covered` samples, all of which have a meaning. What is lent as `out` is not looked at: an
@@ -128,7 +113,7 @@ pub fn measure_listing(
     covered: u64,
     out: &mut [u8],
     limit: usize,
-) -> MeasuredListing
+) -> Option<usize>
     requires whole_in { (WholeIn table_s.now table (all_in table)) × (ReadWhole s.now head) × (Marks s.now marks.now) }
     requires all_mean { (AllMean grouping_type s.now (ahead_in table_s.now table (all_in table))) × (covered ≡ covered_by (ahead_in table_s.now table (all_in table))) }
     requires covered_le_covered_limit { (covered ≤ covered_limit) × (limit ≤ output_limit) }
@@ -137,12 +122,12 @@ pub fn measure_listing(
     let mut memory: [u32; 16] = [0; 16];
     let mut progress = begin_listing(grouping_type, covered, out);
     if limit < progress.hand.at {
-        return MeasuredListing::Over;
+        return None;
     }
     let mut here = first_pattern(table);
     loop {
         match next_pattern(table_s, table, here) {
-            NextPattern::Pattern(pattern, behind) => {
+            Some((pattern, behind)) => {
                 match measure_pattern(
                     grouping_type,
                     table_s,
@@ -155,14 +140,14 @@ pub fn measure_listing(
                     progress,
                     limit,
                 ) {
-                    Measuring::Next(next) => {
+                    Some(next) => {
                         progress = next;
                         here = behind;
                     }
-                    Measuring::Over => return MeasuredListing::Over,
+                    None => return None,
                 }
             }
-            NextPattern::End => return measure_end(grouping_type, s, out, progress, limit),
+            None => return measure_end(grouping_type, s, out, progress, limit),
         }
     }
 }

@@ -7,12 +7,13 @@ ghost use Rattle.table_runs.specs.Ahead.{all_in, WholeIn};
 ghost use Rattle.listing_needs.specs.Needs.{needs_of_listing, file_listing_needs};
 ghost use Rattle.listing_needs.specs.Told.{told_needs, measured_bytes, GivesNeeded};
 
-use atom_path::{FoundBody, find_stbl};
+use base_fields::refusal::Refusal;
+use atom_path::{find_stbl};
 use base_fields::bytes_at;
 use group_sgpd::{SgpdHead, entry_marks};
-use listing_group::{OpenGroup, Records, open_group};
-use listing_meanings::{Checked, check_used};
-use listing_measure::{MeasuredListing, measure_listing};
+use listing_group::{open_group};
+use listing_meanings::{check_used};
+use listing_measure::{measure_listing};
 use table_needed::UNLIMITED;
 use table_runs::{SampleTable, count_samples};
 
@@ -22,22 +23,16 @@ pub struct ListingNeeds {
     pub bytes: u64,
 }
 
-#[derive(Clone, Copy)]
-pub enum Needs {
-    Needs(ListingNeeds),
-    Refused(u32),
-}
-
 // No output is longer.
 pub const OUTPUT_LIMIT: usize = 9223372036854775808;
 
 // The bytes that a listing needs, by its measure: one more than any output has, where it is longer than that.
-fn bytes_for(measured: MeasuredListing) -> u64
+fn bytes_for(measured: Option<usize>) -> u64
     ensures { result ≡ measured_bytes measured }
 {
     match measured {
-        MeasuredListing::Bytes(n) => n as u64,
-        MeasuredListing::Over => OUTPUT_LIMIT as u64 + 1,
+        Some(n) => n as u64,
+        None => OUTPUT_LIMIT as u64 + 1,
     }
 }
 
@@ -49,14 +44,12 @@ fn needs_of(
     head: SgpdHead,
     grouping_type: u32,
     rows: u64,
-) -> Needs
+) -> Result<ListingNeeds, Refusal>
     requires { (WholeIn table_s.now table (all_in table)) × (ReadWhole s.now head) }
     ensures { GivesNeeded table_s.now table s.now grouping_type rows result }
 {
     let marks = entry_marks(s, head);
-    if let Checked::Refused(n) = check_used(table_s, table, s, head, &marks, grouping_type) {
-        return Needs::Refused(n);
-    }
+    check_used(table_s, table, s, head, &marks, grouping_type)?;
     let samples = count_samples(table_s, table);
     let mut unused: [u8; 1] = [0; 1];
     let measured = measure_listing(
@@ -70,20 +63,17 @@ fn needs_of(
         &mut unused[..0],
         OUTPUT_LIMIT,
     );
-    Needs::Needs(ListingNeeds {
+    Ok(ListingNeeds {
         rows,
         bytes: bytes_for(measured),
     })
 }
 
 // For the listing of an stbl's body. Nothing is lent, so that neither 29 nor 54 comes.
-pub fn listing_needs(body: &[u8], grouping_type: u32) -> Needs
+pub fn listing_needs(body: &[u8], grouping_type: u32) -> Result<ListingNeeds, Refusal>
     ensures { told_needs result ≡ needs_of_listing body.now grouping_type }
 {
-    let group = match open_group(body, grouping_type, Records::Lent(UNLIMITED)) {
-        OpenGroup::Group(g) => g,
-        OpenGroup::Refused(n) => return Needs::Refused(n),
-    };
+    let group = open_group(body, grouping_type, Some(UNLIMITED))?;
     let table = group.table;
     let head = group.head;
     let table_s = bytes_at(body, group.table_place, group.table_size);
@@ -92,15 +82,15 @@ pub fn listing_needs(body: &[u8], grouping_type: u32) -> Needs
 }
 
 // The same for the stbl of a track of a film, counted from 0.
-pub fn file_listing_needs(s: &[u8], track: u32, grouping_type: u32) -> Needs
+pub fn file_listing_needs(s: &[u8], track: u32, grouping_type: u32) -> Result<ListingNeeds, Refusal>
     ensures { told_needs result ≡ file_listing_needs s.now track grouping_type }
 {
     let found = find_stbl(s, track);
     match found {
-        FoundBody::Body(body) => {
+        Ok(body) => {
             let stbl = bytes_at(s, body.place as usize, body.size as usize);
             listing_needs(stbl, grouping_type)
         }
-        FoundBody::Refused(n) => Needs::Refused(n),
+        Err(n) => Err(n),
     }
 }

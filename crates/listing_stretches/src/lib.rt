@@ -36,10 +36,3 @@ pub struct Mark {
     pub hand: Hand,
 }
 
-#[derive(Clone, Copy)]
-pub enum Passed {
-    // What is in hand, how many samples of the pattern are passed, and the mark.
-    On(Hand, PatternCount, Mark),
-    // The output would pass the limit.
-    Over,
-}

@@ -3,7 +3,7 @@ ghost use Rattle.std.specs.Prelude.{◌≡◌, ◌+◌, ◌*◌, ◌≤◌, ◌<
 ghost use Rattle.table_runs.specs.Patterns.{covered_limit};
 ghost use Rattle.listing_stretches.specs.Passed.{GivesRepeated, GivesPassed, lengthened};
 
-use super::{Hand, Mark, Passed};
+use super::{Hand, Mark};
 use base_ids::PatternCount;
 
 // Periods that leave the stretch in hand as it is and add as many bytes each.
@@ -14,14 +14,14 @@ fn repeat_periods(
     length: u32,
     periods: u32,
     limit: usize,
-) -> Passed
+) -> Option<(Hand, PatternCount, Mark)>
     requires { (hand.at ≤ limit) × (k + periods * length < 4294967296) }
     ensures { GivesRepeated hand added k length periods limit result }
 {
     let times = periods as usize;
     if 0 < added {
         if (limit - hand.at) / added < times {
-            return Passed::Over;
+            return None;
         }
     }
     let next = Hand {
@@ -30,7 +30,7 @@ fn repeat_periods(
         index: hand.index,
     };
     let sample = k + periods * length;
-    Passed::On(next, sample, Mark { sample, hand: next })
+    Some((next, sample, Mark { sample, hand: next }))
 }
 
 // The stretch in hand, longer by whole periods.
@@ -54,13 +54,13 @@ pub fn pass_periods(
     length: u32,
     count: PatternCount,
     limit: usize,
-) -> Passed
+) -> Option<(Hand, PatternCount, Mark)>
     requires sample_le_k { (mark.sample ≤ k) × (k ≤ count) × (0 < length) }
     requires at_le_at { (mark.hand.at ≤ hand.at) × (hand.at ≤ limit) × (hand.samples ≤ covered_limit) }
     ensures { GivesPassed mark hand k length count limit result }
 {
     if k - mark.sample != length {
-        return Passed::On(hand, k, mark);
+        return Some((hand, k, mark));
     }
     let periods = (count - k) / length;
     let marked = mark.hand;
@@ -73,8 +73,8 @@ pub fn pass_periods(
         if hand.at == marked.at {
             let next = lengthen(hand, length, periods);
             let sample = k + periods * length;
-            return Passed::On(next, sample, Mark { sample, hand: next });
+            return Some((next, sample, Mark { sample, hand: next }));
         }
     }
-    Passed::On(hand, k, Mark { sample: k, hand })
+    Some((hand, k, Mark { sample: k, hand }))
 }

@@ -8,7 +8,9 @@ ghost use Rattle.listing_spec.specs.Walk.{found, sources};
 ghost use Rattle.listing_walk.specs.Told.{told_sources};
 ghost use Rattle.listing_walk.specs.Seen.{taken_of};
 
-use atom_tree::{NextChild, ParentEnd};
+use base_fields::refusal::Refusal;
+use atom_tree::BodyAt;
+use atom_tree::Child;
 use base_fields::INPUT_LIMIT;
 use table_front::TableKind;
 use visit::visit;
@@ -23,50 +25,24 @@ pub struct SourcesAt {
     pub sgpd_size: usize,
 }
 
-#[derive(Clone, Copy)]
-pub enum FoundSources {
-    Sources(SourcesAt),
-    Refused(u32),
-}
-
-// The place and the length of the body of a table that was taken.
-#[derive(Clone, Copy)]
-enum SeenTable {
-    Nothing,
-    At(TableKind, u64, u64),
-}
-
-// The same of an sgpd.
-#[derive(Clone, Copy)]
-enum SeenSgpd {
-    Nothing,
-    At(u64, u64),
-}
-
 // What the walk has taken so far.
 #[derive(Clone, Copy)]
 struct Seen {
-    table: SeenTable,
-    sgpd: SeenSgpd,
-}
-
-#[derive(Clone, Copy)]
-enum Visited {
-    Next(Seen),
-    Refused(u32),
+    table: Option<(TableKind, BodyAt)>,
+    sgpd: Option<BodyAt>,
 }
 
 // After the walk: no table 50, no sgpd 52.
-fn sources_of(seen: Seen) -> FoundSources
+fn sources_of(seen: Seen) -> Result<SourcesAt, Refusal>
     ensures { told_sources result ≡ found (taken_of seen) }
 {
     let table = seen.table;
     let sgpd = seen.sgpd;
     match table {
-        SeenTable::Nothing => FoundSources::Refused(50),
-        SeenTable::At(kind, table_place, table_size) => match sgpd {
-            SeenSgpd::Nothing => FoundSources::Refused(52),
-            SeenSgpd::At(sgpd_place, sgpd_size) => FoundSources::Sources(SourcesAt {
+        None => Err(Refusal::NoTable),
+        Some(kind, table_place, table_size) => match sgpd {
+            None => Err(Refusal::NoSgpd),
+            Some(BodyAt { place: sgpd_place, size: sgpd_size }) => Ok(SourcesAt {
                 kind,
                 table_place: table_place as usize,
                 table_size: table_size as usize,
@@ -78,33 +54,33 @@ fn sources_of(seen: Seen) -> FoundSources
 }
 
 // The table and the sgpd of a grouping type in an stbl's body.
-pub fn find_sources(s: &[u8], grouping_type: u32) -> FoundSources
+pub fn find_sources(s: &[u8], grouping_type: u32) -> Result<SourcesAt, Refusal>
     ensures { told_sources result ≡ sources s.now grouping_type }
 {
     if INPUT_LIMIT < s.len() {
-        return FoundSources::Refused(55);
+        return Err(Refusal::InputTooLong);
     }
     let end = s.len() as u64;
     let mut at: u64 = 0;
     let mut seen = Seen {
-        table: SeenTable::Nothing,
-        sgpd: SeenSgpd::Nothing,
+        table: None,
+        sgpd: None,
     };
     loop {
-        let child = atom_tree::next_child(s, at, ParentEnd::At(end));
+        let child = atom_tree::next_child(s, at, Some(end));
         match child {
-            NextChild::Child(h, next) => {
+            Ok(Some(Child { head: h, next })) => {
                 let visited = visit(s, grouping_type, h, seen);
                 match visited {
-                    Visited::Next(taken) => {
+                    Ok(taken) => {
                         seen = taken;
                         at = next;
                     }
-                    Visited::Refused(n) => return FoundSources::Refused(n),
+                    Err(n) => return Err(n),
                 }
             }
-            NextChild::Done => return sources_of(seen),
-            NextChild::Refused(n) => return FoundSources::Refused(n),
+            Ok(None) => return sources_of(seen),
+            Err(n) => return Err(n),
         }
     }
 }

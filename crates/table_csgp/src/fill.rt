@@ -5,13 +5,14 @@ ghost use Rattle.table_rows.specs.Row.{Row, records_in, filled};
 ghost use Rattle.table_csgp_head.specs.Head.{CsgpLaid};
 ghost use Rattle.table_csgp.specs.Rows.{rows_for};
 
+use base_fields::refusal::Refusal;
 use base_ids::{RECORD_NUMBERS, RowNumber};
 use table_csgp_head::{CsgpHead, first_pattern, pattern_at, patterns_behind};
 use table_patterns::run::run_at;
 use table_replay::enter::Tail;
 use table_replay::records::copy_rows;
 use table_replay::singly::write_singly;
-use table_replay::step::{Stepped, pattern_start, replay_step};
+use table_replay::step::{pattern_start, replay_step};
 use table_rows::record::put_row;
 
 // Writes the rows from the front, where there are records enough. A run that joins the last row writes it anew; the rows of periods that
@@ -33,13 +34,13 @@ pub fn fill(s: &[u8], head: CsgpHead, rows: &mut [RowNumber])
         while state.sample < pattern.count {
             let run = run_at(s, pattern, state.sample);
             match replay_step(pattern, state, run, room) {
-                Stepped::Next(next, stood) => {
+                Ok((next, stood)) => {
                     copy_rows(rows, state.mark.tail.rows, stood, next.tail.rows);
                     put_row(rows, next.tail.rows - 1, next.tail.count, next.tail.index);
                     state = write_singly(s, pattern, next, rows);
                 }
-                Stepped::Over => return,
-                Stepped::Full => return,
+                Err(Refusal::RowCountOver) => return,
+                Err(Refusal::NoRecordLeft) => return,
             }
         }
         tail = state.tail;

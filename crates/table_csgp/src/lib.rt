@@ -8,26 +8,24 @@ ghost use Rattle.table_rows.specs.Row.{records_in};
 ghost use Rattle.table_rows.specs.Found.{GivesTable};
 ghost use Rattle.table_csgp.specs.Table.{parse_csgp};
 
+use base_fields::refusal::Refusal;
 use base_ids::{RECORD_NUMBERS, RowNumber};
 use fill::fill;
 use measure::{Measured, measure};
-use table_csgp_head::{ReadCsgp, read_csgp};
-use table_rows::{ParsedTable, SampleToGroup};
+use table_csgp_head::{read_csgp};
+use table_rows::{SampleToGroup};
 
 // Reads a csgp payload and writes the rows of its samples in front of the lent run. Nothing is written on refusal.
-pub fn parse_csgp(s: &[u8], rows: &mut [RowNumber]) -> ParsedTable
+pub fn parse_csgp(s: &[u8], rows: &mut [RowNumber]) -> Result<SampleToGroup, Refusal>
     ensures { GivesTable (parse_csgp s.now (records_in rows.old)) rows.old rows.new result }
 {
-    let head = match read_csgp(s) {
-        ReadCsgp::Head(head) => head,
-        ReadCsgp::Refused(n) => return ParsedTable::Refused(n),
-    };
+    let head = read_csgp(s)?;
     let entry_count = match measure(s, head, rows.len() / RECORD_NUMBERS) {
         Measured::Rows(count) => count,
-        Measured::Refused(n) => return ParsedTable::Refused(n),
+        Measured::Refused(n) => return Err(n),
     };
     fill(s, head, rows);
-    ParsedTable::Table(SampleToGroup {
+    Ok(SampleToGroup {
         grouping_type: head.grouping_type,
         grouping_type_parameter: head.grouping_type_parameter,
         entry_count,

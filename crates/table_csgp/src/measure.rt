@@ -4,20 +4,15 @@ ghost use Rattle.base_fields.specs.Answer.{given, and_then};
 ghost use Rattle.table_csgp_head.specs.Head.{CsgpLaid};
 ghost use Rattle.table_csgp.specs.Rows.{rows_for, told_measured};
 
+use base_fields::refusal::Refusal;
 use table_csgp_head::{CsgpHead, first_pattern, pattern_at, patterns_behind};
 use table_patterns::run::run_at;
 use table_replay::enter::Tail;
 use table_replay::singly::enter_singly;
-use table_replay::step::{Stepped, pattern_start, replay_step};
-
-#[derive(Clone, Copy)]
-pub enum Measured {
-    Rows(usize),
-    Refused(u32),
-}
+use table_replay::step::{pattern_start, replay_step};
 
 // How many rows the samples fill, or the refusal of the first sample that cannot be entered.
-pub fn measure(s: &[u8], head: CsgpHead, room: usize) -> Measured
+pub fn measure(s: &[u8], head: CsgpHead, room: usize) -> Result<usize, Refusal>
     requires { CsgpLaid s.now head }
     ensures { told_measured result ≡ and_then (rows_for s.now room) (λ rows. given (length rows)) }
 {
@@ -34,12 +29,12 @@ pub fn measure(s: &[u8], head: CsgpHead, room: usize) -> Measured
         while state.sample < pattern.count {
             let run = run_at(s, pattern, state.sample);
             match replay_step(pattern, state, run, room) {
-                Stepped::Next(next, _stood) => state = enter_singly(s, pattern, next, room),
-                Stepped::Over => {
+                Ok((next, _stood)) => state = enter_singly(s, pattern, next, room),
+                Err(Refusal::RowCountOver) => {
                     told = 28;
                     break 'replay;
                 }
-                Stepped::Full => {
+                Err(Refusal::NoRecordLeft) => {
                     told = 29;
                     break 'replay;
                 }
@@ -49,7 +44,7 @@ pub fn measure(s: &[u8], head: CsgpHead, room: usize) -> Measured
         here = patterns_behind(head, here, pattern.length);
     }
     if told != 0 {
-        return Measured::Refused(told);
+        return Err(told);
     }
-    Measured::Rows(tail.rows)
+    Ok(tail.rows)
 }

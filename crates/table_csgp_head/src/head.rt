@@ -6,11 +6,12 @@ ghost use Rattle.table_patterns.specs.Place.{bit_count};
 ghost use Rattle.table_csgp_head.specs.Csgp.{width_of, index_place};
 ghost use Rattle.table_csgp_head.specs.Head.{Fixed, GivesFixed, GivesPairs, GivesPatterns, GivesCsgp};
 
+use base_fields::refusal::Refusal;
 use super::indices::{can_be_large, check_indices};
 use super::walk::length_at;
-use super::{Check, CsgpHead, ReadCsgp, first_pattern, patterns_behind};
+use super::{CsgpHead, first_pattern, patterns_behind};
 use base_fields::read_u8;
-use table_front::{ReadFront, TableFront, TableKind, read_front};
+use table_front::{TableFront, TableKind, read_front};
 
 // The width in bits that a code of two bits names.
 fn field_width(code: u32) -> u32
@@ -57,33 +58,33 @@ fn head_of(s: &[u8], front: TableFront) -> CsgpHead
 }
 
 // The fixed fields, or the first that is missing.
-fn fixed_fields(s: &[u8]) -> ReadCsgp
+fn fixed_fields(s: &[u8]) -> Result<CsgpHead, Refusal>
     ensures { GivesFixed s.now result }
 {
     match read_front(s, TableKind::Csgp) {
-        ReadFront::Front(front) => ReadCsgp::Head(head_of(s, front)),
-        ReadFront::Refused(n) => ReadCsgp::Refused(n),
+        Ok(front) => Ok(head_of(s, front)),
+        Err(n) => Err(n),
     }
 }
 
 // The pair table, in one step: all of it is there, or the first pair that is not is cut in its length or in its count.
-fn check_pairs(s: &[u8], head: CsgpHead) -> Check
+fn check_pairs(s: &[u8], head: CsgpHead) -> Result<(), Refusal>
     requires { Fixed s.now head }
     ensures { GivesPairs s.now result }
 {
     let bits = 8 * s.len();
     if head.indices <= bits {
-        return Check::Passed;
+        return Ok(());
     }
     let left = (bits - head.pairs) % ((head.length_width + head.count_width) as usize);
     if left < head.length_width as usize {
-        return Check::Refused(24);
+        return Err(Refusal::PatternLengthCut);
     }
-    Check::Refused(25)
+    Err(Refusal::PatternCountCut)
 }
 
 // The patterns, where the pair table is there: the first that has no index, or an index that is cut or too large.
-fn check_patterns(s: &[u8], head: CsgpHead) -> Check
+fn check_patterns(s: &[u8], head: CsgpHead) -> Result<(), Refusal>
     requires { (Fixed s.now head) × (index_place s.now ≤ bit_count s.now) }
     ensures { GivesPatterns s.now result }
 {
@@ -92,29 +93,23 @@ fn check_patterns(s: &[u8], head: CsgpHead) -> Check
     while 0 < here.left {
         let length = length_at(s, head, here.pair);
         if length == 0 {
-            return Check::Refused(26);
+            return Err(Refusal::PatternLengthZero);
         }
-        if let Check::Refused(n) = check_indices(s, head, large, here.indices, length) {
-            return Check::Refused(n);
-        }
+        check_indices(s, head, large, here.indices, length)?;
         here = patterns_behind(head, here, length);
     }
-    Check::Passed
+    Ok(())
 }
 
 // The head of a payload whose patterns are all there, or the first refusal.
-pub fn read_csgp(s: &[u8]) -> ReadCsgp
+pub fn read_csgp(s: &[u8]) -> Result<CsgpHead, Refusal>
     ensures { GivesCsgp s.now result }
 {
     let read = fixed_fields(s);
-    let ReadCsgp::Head(head) = read else {
+    let Ok(head) = read else {
         return read;
     };
-    if let Check::Refused(n) = check_pairs(s, head) {
-        return ReadCsgp::Refused(n);
-    }
-    if let Check::Refused(n) = check_patterns(s, head) {
-        return ReadCsgp::Refused(n);
-    }
-    ReadCsgp::Head(head)
+    check_pairs(s, head)?;
+    check_patterns(s, head)?;
+    Ok(head)
 }

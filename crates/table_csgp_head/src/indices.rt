@@ -6,7 +6,8 @@ ghost use Rattle.table_csgp_head.specs.Csgp.{index_width_of};
 ghost use Rattle.table_csgp_head.specs.Head.{Fixed};
 ghost use Rattle.table_csgp_head.specs.Indices.{can_be_large_by, GivesHighest, GivesLarge, IndicesThere, GivesIndices};
 
-use super::{Check, CsgpHead};
+use base_fields::refusal::Refusal;
+use super::{CsgpHead};
 use base_fields::read_u8;
 
 // Whether an index can be too large: one of 32 bits without a mark.
@@ -68,16 +69,16 @@ pub(crate) fn check_indices(
     large: bool,
     place: usize,
     length: u32,
-) -> Check
+) -> Result<(), Refusal>
     requires { (Fixed s.now head) × (large ≡ can_be_large_by s.now) × (place ≤ bit_count s.now) }
     ensures { GivesIndices s.now place length result }
 {
     let there = indices_there(s, head, place, length);
     if has_large(s, large, place, there) {
-        return Check::Refused(67);
+        return Err(Refusal::IndexTooLarge);
     }
     if there < length {
-        return Check::Refused(27);
+        return Err(Refusal::IndexCut);
     }
-    Check::Passed
+    Ok(())
 }

@@ -23,12 +23,6 @@ pub struct CsgpHead {
     pub marks: bool,
 }
 
-#[derive(Clone, Copy)]
-pub enum ReadCsgp {
-    Head(CsgpHead),
-    Refused(u32),
-}
-
 // A row of the pair table.
 #[derive(Clone, Copy)]
 struct PatternPair {
@@ -44,8 +38,3 @@ pub struct PatternsAt {
     pub indices: usize,
 }
 
-#[derive(Clone, Copy)]
-enum Check {
-    Passed,
-    Refused(u32),
-}

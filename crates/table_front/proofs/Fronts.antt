@@ -12,7 +12,7 @@ use Rattle.base_fields.proofs.Answers.{given_inj, given-past, refused-past, refu
 use Rattle.table_front.specs.Front.{Front, has_parameter, count_place, fronted, front_fields, Present}
 use Rattle.table_front.specs.Told.{told_front, FrontOf}
 use Rattle.table_front.specs.declared.TableFront.{TableFront}
-use Rattle.table_front.specs.declared.ReadFront.TheVariants as read
+use Rattle.std.specs.Prelude.{Ok}
 use Rattle.table_front.specs.declared.TableKind.{TableKind}
 
 place_bounds : (b : Bool) → (8 ≤ choose {A = ℕ} b 12 8) × (choose {A = ℕ} b 12 8 ≤ 12)
@@ -55,7 +55,7 @@ module _ (kind : TableKind) (s : List ℕ) where
       (refused-past under_8 20 _ _ (refused-past no_parameter 21 _ _ (refused-past no_count 22 (given x) rest (λ g. absurd (refused-given (sym g)))))) e
 
   -- what read_front gives
-  pub front_of : (f : TableFront) → told_front (read.Front f) ≡ fronted kind s (given (front_fields kind s)) → FrontOf kind s f
+  pub front_of : (f : TableFront) → told_front (Ok f) ≡ fronted kind s (given (front_fields kind s)) → FrontOf kind s f
   front_of f e =
       let t = front-given (given (front_fields kind s)) (sym e) in
       let g = given_inj (sym t.1) in

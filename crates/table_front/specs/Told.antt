@@ -1,17 +1,19 @@
 -- Document 01's answer for each case of the enum of src/, and what a front that was read tells.
-use Rattle.std.specs.Prelude.{◌≡◌, List, ℕ, ◌+◌}
-use Rattle.base_fields.specs.Answer.{Answer, given, refused}
+use Rattle.std.specs.Prelude.{◌≡◌, List, ℕ, ◌+◌, Result}
+use Rattle.base_fields.specs.Answer.{Answer}
+use Rattle.base_fields.specs.Refusal.{told}
+use Rattle.base_fields.specs.declared.refusal.Refusal.{Refusal}
 use Rattle.base_fields.specs.Number.{be_at}
 use Rattle.table_front.specs.Front.{Front, parameter_of, count_place, count_of, Present}
 use Rattle.table_front.specs.declared.TableKind.{TableKind}
 use Rattle.table_front.specs.declared.TableFront.{TableFront}
-use Rattle.table_front.specs.declared.ReadFront.{ReadFront}
-use Rattle.table_front.specs.declared.ReadFront.TheVariants as read
 
-abbrev pub told_front : ReadFront → Answer Front
-told_front (read.Front f) =
-    given (record { grouping_type_of = f.grouping_type; parameter = f.grouping_type_parameter; count = f.count; first = f.first })
-told_front (read.Refused n) = refused n
+-- document 01's front of the fields that were read
+abbrev pub front_read : TableFront → Front
+front_read f = record { grouping_type_of = f.grouping_type; parameter = f.grouping_type_parameter; count = f.count; first = f.first }
+
+abbrev pub told_front : Result TableFront Refusal → Answer Front
+told_front = told front_read
 
 -- f is the front of a payload
 pub record FrontOf (kind : TableKind) (s : List ℕ) (f : TableFront) : Type 0 where

@@ -7,6 +7,7 @@ ghost use Rattle.base_fields.specs.Number.{be_at};
 ghost use Rattle.table_front.specs.Front.{has_parameter, fronted, front_fields};
 ghost use Rattle.table_front.specs.Told.{told_front};
 
+use base_fields::refusal::Refusal;
 use base_fields::{INPUT_LIMIT, read_u8, read_u32};
 
 #[derive(Clone, Copy)]
@@ -23,12 +24,6 @@ pub struct TableFront {
     pub count: u32,
     // The byte place behind the count.
     pub first: usize,
-}
-
-#[derive(Clone, Copy)]
-pub enum ReadFront {
-    Front(TableFront),
-    Refused(u32),
 }
 
 // Whether a parameter stands before the count.
@@ -63,24 +58,24 @@ fn parameter_value(s: &[u8], parameter: bool) -> u32
     if parameter { read_u32(s, 8) } else { 0 }
 }
 
-pub fn read_front(s: &[u8], kind: TableKind) -> ReadFront
+pub fn read_front(s: &[u8], kind: TableKind) -> Result<TableFront, Refusal>
     ensures { told_front result ≡ fronted kind s.now (given (front_fields kind s.now)) }
 {
     if INPUT_LIMIT < s.len() {
-        return ReadFront::Refused(55);
+        return Err(Refusal::InputTooLong);
     }
     if s.len() < 8 {
-        return ReadFront::Refused(20);
+        return Err(Refusal::ShortTable);
     }
     let parameter = has_parameter(s, kind);
     let place = count_place(parameter);
     if s.len() < place + 4 {
         if s.len() < place {
-            return ReadFront::Refused(21);
+            return Err(Refusal::NoParameter);
         }
-        return ReadFront::Refused(22);
+        return Err(Refusal::NoCount);
     }
-    ReadFront::Front(TableFront {
+    Ok(TableFront {
         grouping_type: read_u32(s, 4),
         grouping_type_parameter: parameter_value(s, parameter),
         count: read_u32(s, place),

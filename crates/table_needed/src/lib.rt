@@ -8,48 +8,42 @@ ghost use Rattle.table_runs.specs.Ahead.{LaidIn};
 ghost use Rattle.table_records.specs.Lent.{table_from};
 ghost use Rattle.table_needed.specs.Needed.{rows_needed, told_needed};
 
-use table_csgp::measure::Measured;
-use table_csgp_head::{ReadCsgp, read_csgp};
+use base_fields::refusal::Refusal;
+use table_csgp_head::{read_csgp};
 use table_records::count_rows;
 use table_runs::SampleTable;
-use table_sbgp::{ReadSbgp, read_sbgp};
-
-#[derive(Clone, Copy)]
-pub enum RowsNeeded {
-    Rows(usize),
-    Refused(u32),
-}
+use table_sbgp::{read_sbgp};
 
 // More records than any table has rows.
 pub const UNLIMITED: usize = 18446744073709551615;
 
 // The rows of a table that was read; 28 where a row's count would pass its limit.
-fn needed(s: &[u8], table: SampleTable) -> RowsNeeded
+fn needed(s: &[u8], table: SampleTable) -> Result<usize, Refusal>
     requires { LaidIn s.now table }
     ensures { told_needed result ≡ rows_needed (λ p. table_from p table) s.now }
 {
     match count_rows(s, table, UNLIMITED) {
-        Measured::Rows(n) => RowsNeeded::Rows(n),
-        Measured::Refused(n) => RowsNeeded::Refused(n),
+        Ok(n) => Ok(n),
+        Err(n) => Err(n),
     }
 }
 
 // The number of rows that an sbgp payload needs, or its first refusal.
-pub fn sbgp_rows_needed(s: &[u8]) -> RowsNeeded
+pub fn sbgp_rows_needed(s: &[u8]) -> Result<usize, Refusal>
     ensures { told_needed result ≡ rows_needed parse_sbgp s.now }
 {
     match read_sbgp(s) {
-        ReadSbgp::Head(head) => needed(s, SampleTable::Rows(head)),
-        ReadSbgp::Refused(n) => RowsNeeded::Refused(n),
+        Ok(head) => needed(s, SampleTable::Rows(head)),
+        Err(n) => Err(n),
     }
 }
 
 // The same for a csgp payload.
-pub fn csgp_rows_needed(s: &[u8]) -> RowsNeeded
+pub fn csgp_rows_needed(s: &[u8]) -> Result<usize, Refusal>
     ensures { told_needed result ≡ rows_needed parse_csgp s.now }
 {
     match read_csgp(s) {
-        ReadCsgp::Head(head) => needed(s, SampleTable::Patterns(head)),
-        ReadCsgp::Refused(n) => RowsNeeded::Refused(n),
+        Ok(head) => needed(s, SampleTable::Patterns(head)),
+        Err(n) => Err(n),
     }
 }

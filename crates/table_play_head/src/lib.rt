@@ -10,9 +10,9 @@ ghost use Rattle.table_play_head.specs.Play.{last_sample};
 ghost use Rattle.table_play_head.specs.Head.{fresh_head, onward};
 ghost use Rattle.table_play_head.specs.Turn.{GivesTurn, set_told, GivesMove};
 
+use base_fields::refusal::Refusal;
 use base_ids::{DescriptionIndex, RECORD_LIMIT, RowNumber, SampleNumber};
 use row_walk::{index_of, walk_from};
-use table_rows::Found;
 use table_rows::record::record_count;
 
 // Before sample 0, or at a sample: its number, the row that covers it, and the samples of that row before it. Its numbers are as wide as
@@ -29,7 +29,7 @@ pub struct PlayHead {
 #[derive(Clone, Copy)]
 pub struct Turn {
     pub head: PlayHead,
-    pub found: Found,
+    pub found: Result<DescriptionIndex, Refusal>,
 }
 
 // The greatest sample that a head stands at.
@@ -89,7 +89,7 @@ fn too_many(head: PlayHead) -> Turn
 {
     Turn {
         head,
-        found: Found::Refused(55),
+        found: Err(Refusal::InputTooLong),
     }
 }
 
@@ -113,7 +113,7 @@ pub fn set_by_value(head: PlayHead, rows: &[RowNumber], sample: SampleNumber) ->
     let index = index_of(rows, row);
     Turn {
         head: next,
-        found: Found::Index(DescriptionIndex(index)),
+        found: Ok(DescriptionIndex(index)),
     }
 }
 
@@ -129,12 +129,12 @@ pub fn move_by_value(head: PlayHead, rows: &[RowNumber]) -> Turn
     let index = index_of(rows, row);
     Turn {
         head: next,
-        found: Found::Index(DescriptionIndex(index)),
+        found: Ok(DescriptionIndex(index)),
     }
 }
 
 // A lent head set to a sample, or to the end where that comes before.
-pub fn play_set(head: &mut PlayHead, rows: &[RowNumber], sample: SampleNumber) -> Found
+pub fn play_set(head: &mut PlayHead, rows: &[RowNumber], sample: SampleNumber) -> Result<DescriptionIndex, Refusal>
     ensures { GivesTurn (set_told rows.now sample.0) head.entry.now (record { head = head.exit.now; found = result }) }
 {
     let t = set_by_value(*head, rows, sample);
@@ -143,7 +143,7 @@ pub fn play_set(head: &mut PlayHead, rows: &[RowNumber], sample: SampleNumber) -
 }
 
 // A lent head moved on by one sample.
-pub fn play_move(head: &mut PlayHead, rows: &[RowNumber]) -> Found
+pub fn play_move(head: &mut PlayHead, rows: &[RowNumber]) -> Result<DescriptionIndex, Refusal>
     ensures { GivesMove rows.now head.entry.now (record { head = head.exit.now; found = result }) }
 {
     let t = move_by_value(*head, rows);

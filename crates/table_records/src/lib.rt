@@ -8,13 +8,14 @@ ghost use Rattle.table_csgp.specs.Rows.{told_measured};
 ghost use Rattle.table_runs.specs.Ahead.{LaidIn};
 ghost use Rattle.table_records.specs.Lent.{table_from};
 
+use base_fields::refusal::Refusal;
 use base_ids::RowNumber;
 use table_csgp::fill::fill;
-use table_csgp::measure::{Measured, measure};
+use table_csgp::measure::{measure};
 use table_runs::SampleTable;
 
 // How many rows a table has, where that is within the room; or 28, 29.
-pub fn count_rows(s: &[u8], table: SampleTable, room: usize) -> Measured
+pub fn count_rows(s: &[u8], table: SampleTable, room: usize) -> Result<usize, Refusal>
     requires { LaidIn s.now table }
     ensures { told_measured result ≡ and_then (table_from s.now table room) (λ t. given (length t.rows)) }
 {
@@ -22,9 +23,9 @@ pub fn count_rows(s: &[u8], table: SampleTable, room: usize) -> Measured
         SampleTable::Rows(head) => {
             let count = head.entry_count as usize;
             if room < count {
-                return Measured::Refused(29);
+                return Err(Refusal::NoRecordLeft);
             }
-            Measured::Rows(count)
+            Ok(count)
         }
         SampleTable::Patterns(head) => measure(s, head, room),
     }

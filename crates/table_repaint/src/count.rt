@@ -6,18 +6,18 @@ ghost use Rattle.table_repaint.specs.Repaint.{stated_rows};
 ghost use Rattle.table_repaint.specs.Cut.{run, three_runs, tail_run, tail_runs, tail_count};
 ghost use Rattle.table_repaint.specs.Repainted.{told_repainted};
 
-use crate::Repainted;
+use base_fields::refusal::Refusal;
 use crate::pieces::least;
 use base_ids::{RowNumber, SampleCount};
-use table_replay::enter::{Entered, Tail, enter_run};
+use table_replay::enter::{Tail, enter_run};
 use table_rows::record::{count_at, description_at, record_count};
 
 // A run joins the last row or begins a new one; an empty one does nothing.
-fn enter_piece(tail: Tail, room: usize, count: SampleCount, index: u32) -> Entered
+fn enter_piece(tail: Tail, room: usize, count: SampleCount, index: u32) -> Result<Tail, Refusal>
     ensures { told_entered result ≡ tail_run room tail (run count index) }
 {
     if count == 0 {
-        return Entered::Next(tail);
+        return Ok(tail);
     }
     enter_run(tail, room, count, index)
 }
@@ -31,25 +31,25 @@ fn enter_pieces(
     from: SampleCount,
     to: SampleCount,
     paint: u32,
-) -> Entered
+) -> Result<Tail, Refusal>
     requires { (from ≤ to) × (to ≤ count) }
     ensures { told_entered result ≡ tail_runs room tail (three_runs from to paint (run count index)) }
 {
     let first = match enter_piece(tail, room, from, index) {
-        Entered::Next(t) => t,
-        Entered::Over => return Entered::Over,
-        Entered::Full => return Entered::Full,
+        Ok(t) => t,
+        Err(Refusal::RowCountOver) => return Err(Refusal::RowCountOver),
+        Err(Refusal::NoRecordLeft) => return Err(Refusal::NoRecordLeft),
     };
     let second = match enter_piece(first, room, to - from, paint) {
-        Entered::Next(t) => t,
-        Entered::Over => return Entered::Over,
-        Entered::Full => return Entered::Full,
+        Ok(t) => t,
+        Err(Refusal::RowCountOver) => return Err(Refusal::RowCountOver),
+        Err(Refusal::NoRecordLeft) => return Err(Refusal::NoRecordLeft),
     };
     enter_piece(second, room, count - to, index)
 }
 
 // The number of the new rows, with room for every record of the run, or 28 or 29.
-pub fn count_repainted(rows: &[RowNumber], stated: usize, a: u64, b: u64, paint: u32) -> Repainted
+pub fn count_repainted(rows: &[RowNumber], stated: usize, a: u64, b: u64, paint: u32) -> Result<usize, Refusal>
     requires { (stated ≤ records_in rows.now) × (a ≤ b) }
     ensures { told_repainted result ≡ tail_count (records_in rows.now) a b paint (tail_of []) (stated_rows rows.now stated) }
 {
@@ -68,13 +68,13 @@ pub fn count_repainted(rows: &[RowNumber], stated: usize, a: u64, b: u64, paint:
         let x = least(count, from);
         let y = least(count, to);
         tail = match enter_pieces(tail, room, count, index, x, y, paint) {
-            Entered::Next(t) => t,
-            Entered::Over => return Repainted::Refused(28),
-            Entered::Full => return Repainted::Refused(29),
+            Ok(t) => t,
+            Err(Refusal::RowCountOver) => return Err(Refusal::RowCountOver),
+            Err(Refusal::NoRecordLeft) => return Err(Refusal::NoRecordLeft),
         };
         from = from - x as u64;
         to = to - y as u64;
         j = j + 1;
     }
-    Repainted::Rows(tail.rows)
+    Ok(tail.rows)
 }

@@ -2,6 +2,7 @@
 ghost use Rattle.std.specs.Prelude.{◌≡◌};
 ghost use Rattle.table_replay.specs.Enter.{enter_run, told_entered};
 
+use base_fields::refusal::Refusal;
 use base_ids::{COUNT_LIMIT, SampleCount};
 
 // The rows so far: their number, and the last one's count and index.
@@ -12,25 +13,16 @@ pub struct Tail {
     pub index: u32,
 }
 
-#[derive(Clone, Copy)]
-pub enum Entered {
-    Next(Tail),
-    // the last row's count would pass its limit
-    Over,
-    // a new row has no record left
-    Full,
-}
-
 // `count` samples of one index join the last row, where it has that index, or begin a new one.
-pub fn enter_run(tail: Tail, room: usize, count: SampleCount, index: u32) -> Entered
+pub fn enter_run(tail: Tail, room: usize, count: SampleCount, index: u32) -> Result<Tail, Refusal>
     ensures { told_entered result ≡ enter_run room tail count index }
 {
     if 0 < tail.rows {
         if tail.index == index {
             if COUNT_LIMIT - tail.count < count {
-                return Entered::Over;
+                return Err(Refusal::RowCountOver);
             }
-            return Entered::Next(Tail {
+            return Ok(Tail {
                 rows: tail.rows,
                 count: tail.count + count,
                 index,
@@ -38,9 +30,9 @@ pub fn enter_run(tail: Tail, room: usize, count: SampleCount, index: u32) -> Ent
         }
     }
     if room <= tail.rows {
-        return Entered::Full;
+        return Err(Refusal::NoRecordLeft);
     }
-    Entered::Next(Tail {
+    Ok(Tail {
         rows: tail.rows + 1,
         count,
         index,

@@ -12,14 +12,6 @@ pub struct Mark {
     pub tail: Tail,
 }
 
-#[derive(Clone, Copy)]
-pub enum Passed {
-    // the rows, the samples passed, and the next mark
-    On(Tail, PatternCount, Mark),
-    // the periods' rows have no record left
-    Full,
-}
-
 // How many periods repeat the one since the mark: all that are left whole of `count` samples, where it left the last row as it found it;
 // else 0.
 fn periods_alike(
@@ -57,25 +49,25 @@ pub fn pass_periods(
     length: u32,
     count: PatternCount,
     room: usize,
-) -> Passed
+) -> Option<(Tail, PatternCount, Mark)>
     requires { (0 < length) × (k ≤ count) × (mark.sample ≤ k) × (tail.rows ≤ room) }
     ensures { GivesPassed mark tail k length count room result }
 {
     if k == count {
-        return Passed::On(tail, k, mark);
+        return Some((tail, k, mark));
     }
     if k - mark.sample != length {
-        return Passed::On(tail, k, mark);
+        return Some((tail, k, mark));
     }
     let periods = periods_alike(mark, tail, k, length, count);
     if periods == 0 {
-        return Passed::On(tail, k, Mark { sample: k, tail });
+        return Some((tail, k, Mark { sample: k, tail }));
     }
     let before = mark.tail;
     let more = tail.rows - before.rows;
     let many = periods as usize;
     if (room - tail.rows) / more < many {
-        return Passed::Full;
+        return None;
     }
     let sample = k + periods * length;
     let next = Tail {
@@ -83,5 +75,5 @@ pub fn pass_periods(
         count: tail.count,
         index: tail.index,
     };
-    Passed::On(next, sample, Mark { sample, tail: next })
+    Some((next, sample, Mark { sample, tail: next }))
 }

@@ -11,37 +11,30 @@ use base_ids::{PatternCount, RECORD_NUMBERS, RowNumber, SampleCount};
 use table_patterns::{PatternAt, read_index};
 use table_rows::record::put_row;
 
-#[derive(Clone, Copy)]
-enum Single {
-    Next(Tail),
-    // a longer run, or no record left: for `run_at` and `replay_step`
-    Stop,
-}
-
 // How long a run may get before it is left for whole words.
 const SHORT: SampleCount = 16;
 
 // One sample joins the last row or begins a new one.
-fn enter_single(tail: Tail, room: usize, index: u32) -> Single
+fn enter_single(tail: Tail, room: usize, index: u32) -> Option<Tail>
     ensures { GivesSingle room tail index result }
 {
     if tail.index == index {
         if tail.rows == 0 {
-            return Single::Stop;
+            return None;
         }
         if SHORT < tail.count {
-            return Single::Stop;
+            return None;
         }
-        return Single::Next(Tail {
+        return Some(Tail {
             rows: tail.rows,
             count: tail.count + 1,
             index,
         });
     }
     if room <= tail.rows {
-        return Single::Stop;
+        return None;
     }
-    Single::Next(Tail {
+    Some(Tail {
         rows: tail.rows + 1,
         count: 1,
         index,
@@ -82,8 +75,8 @@ pub fn enter_singly(s: &[u8], pattern: PatternAt, state: ReplayState, room: usiz
     while sample < last {
         let index = read_index(s, at, pattern);
         tail = match enter_single(tail, room, index) {
-            Single::Next(next) => next,
-            Single::Stop => return ReplayState { tail, sample, mark },
+            Some(next) => next,
+            None => return ReplayState { tail, sample, mark },
         };
         at = at + step;
         sample = sample + 1;
@@ -118,8 +111,8 @@ pub fn write_singly(
     while sample < last {
         let index = read_index(s, at, pattern);
         tail = match enter_single(tail, room, index) {
-            Single::Next(next) => next,
-            Single::Stop => return ReplayState { tail, sample, mark },
+            Some(next) => next,
+            None => return ReplayState { tail, sample, mark },
         };
         put_row(rows, tail.rows - 1, tail.count, tail.index);
         at = at + step;

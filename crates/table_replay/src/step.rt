@@ -4,8 +4,9 @@ ghost use Rattle.table_rows.specs.Row.{Row};
 ghost use Rattle.table_rows.specs.Pattern.{Pattern};
 ghost use Rattle.table_replay.specs.Step.{start_of, StateOf, NextRun, GivesStep};
 
-use crate::enter::{Entered, Tail, enter_run};
-use crate::periods::{Mark, Passed, pass_periods};
+use base_fields::refusal::Refusal;
+use crate::enter::{Tail, enter_run};
+use crate::periods::{Mark, pass_periods};
 use base_ids::PatternCount;
 use table_patterns::PatternAt;
 use table_patterns::run::Run;
@@ -16,16 +17,6 @@ pub struct ReplayState {
     pub tail: Tail,
     pub sample: PatternCount,
     pub mark: Mark,
-}
-
-#[derive(Clone, Copy)]
-pub enum Stepped {
-    // the next state, and the number of rows that stood before periods were passed
-    Next(ReplayState, usize),
-    // the last row's count would pass its limit
-    Over,
-    // a new row has no record left
-    Full,
 }
 
 // Before a pattern's first sample.
@@ -40,25 +31,22 @@ pub fn pattern_start(tail: Tail) -> ReplayState
 }
 
 // Enters the next run of a pattern's samples, and passes the periods behind it that repeat the one since the mark.
-pub fn replay_step(pattern: PatternAt, state: ReplayState, run: Run, room: usize) -> Stepped
+pub fn replay_step(pattern: PatternAt, state: ReplayState, run: Run, room: usize) -> Result<(ReplayState, usize), Refusal>
     requires { (p : Pattern) × NextRun p pattern state run × ((rows : List Row) × StateOf p room rows state) }
     ensures { (p : Pattern) → NextRun p pattern state run → GivesStep p room state result }
 {
     let tail = match enter_run(state.tail, room, run.count, run.index) {
-        Entered::Next(next) => next,
-        Entered::Over => return Stepped::Over,
-        Entered::Full => return Stepped::Full,
+        Ok(next) => next,
+        Err(Refusal::RowCountOver) => return Err(Refusal::RowCountOver),
+        Err(Refusal::NoRecordLeft) => return Err(Refusal::NoRecordLeft),
     };
     let k = state.sample + run.count;
     match pass_periods(state.mark, tail, k, pattern.length, pattern.count, room) {
-        Passed::On(next, sample, mark) => Stepped::Next(
-            ReplayState {
+        Some((next, sample, mark)) => Ok((ReplayState {
                 tail: next,
                 sample,
                 mark,
-            },
-            tail.rows,
-        ),
-        Passed::Full => Stepped::Full,
+            }, tail.rows)),
+        None => Err(Refusal::NoRecordLeft),
     }
 }

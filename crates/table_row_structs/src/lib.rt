@@ -8,37 +8,17 @@ ghost use Rattle.table_rows.specs.Found.{told_index, told_covered};
 ghost use Rattle.table_row_structs.specs.Records.{no_row, row_in, set_answer, lookup_in, total_in, or_too_many, read_count, copy_answer, structs_of};
 ghost use Rattle.table_row_structs.specs.Steps.{told_row, told_set, GivesSet, accepted_in, search_from, passed, told_written, GivesRows};
 
+use base_fields::refusal::Refusal;
 use base_ids::{
     DescriptionIndex, RECORD_LIMIT, RECORD_NUMBERS, RowNumber, SampleCount, SampleNumber,
 };
 use table_rows::record::{count_at, description_at};
-use table_rows::{Covered, Found};
 
 // A row: so many samples of one description index.
 #[derive(Clone, Copy)]
 pub struct SampleToGroupEntry {
     pub sample_count: SampleCount,
     pub group_description_index: u32,
-}
-
-// How many rows were written.
-#[derive(Clone, Copy)]
-pub enum Written {
-    Rows(usize),
-    Refused(u32),
-}
-
-#[derive(Clone, Copy)]
-pub enum ReadRow {
-    Row(SampleToGroupEntry),
-    Nothing,
-    Refused(u32),
-}
-
-#[derive(Clone, Copy)]
-pub enum SetRow {
-    Set,
-    Nothing,
 }
 
 // A lookup under way: the row to look at next, the samples still to pass, and the index that was found.
@@ -72,24 +52,24 @@ fn rows_read(n: usize) -> usize
     n
 }
 
-fn found_row(row: SampleToGroupEntry) -> ReadRow
+fn found_row(row: SampleToGroupEntry) -> Result<Option<SampleToGroupEntry>, Refusal>
     ensures { told_row result ≡ given row }
 {
-    ReadRow::Row(row)
+    Ok(Some(row))
 }
 
 // What is answered where no row of n is read.
-fn missing_row(n: usize) -> ReadRow
+fn missing_row(n: usize) -> Result<Option<SampleToGroupEntry>, Refusal>
     ensures { told_row result ≡ within_records n none }
 {
     if RECORD_LIMIT < n {
-        return ReadRow::Refused(55);
+        return Err(Refusal::InputTooLong);
     }
-    ReadRow::Nothing
+    Ok(None)
 }
 
 // Row k, or none past the end.
-pub fn row_at(rows: &[SampleToGroupEntry], k: usize) -> ReadRow
+pub fn row_at(rows: &[SampleToGroupEntry], k: usize) -> Result<Option<SampleToGroupEntry>, Refusal>
     ensures { told_row result ≡ row_in rows.now k }
 {
     let n = row_count(rows);
@@ -102,17 +82,17 @@ pub fn row_at(rows: &[SampleToGroupEntry], k: usize) -> ReadRow
 }
 
 // What is answered where row k of n is set.
-fn set_told(n: usize, k: usize) -> SetRow
+fn set_told(n: usize, k: usize) -> Option<()>
     ensures { told_set result ≡ set_answer n k }
 {
     if n <= k {
-        return SetRow::Nothing;
+        return None;
     }
-    SetRow::Set
+    Some(())
 }
 
 // Sets row k; the others stay. Past the end all stay. No row is read, so the rows may be more than a reader takes.
-pub fn set_row(rows: &mut [SampleToGroupEntry], k: usize, row: SampleToGroupEntry) -> SetRow
+pub fn set_row(rows: &mut [SampleToGroupEntry], k: usize, row: SampleToGroupEntry) -> Option<()>
     ensures { GivesSet rows.old rows.new k row result }
 {
     let n = rows.len();
@@ -122,17 +102,17 @@ pub fn set_row(rows: &mut [SampleToGroupEntry], k: usize, row: SampleToGroupEntr
     set_told(n, k)
 }
 
-fn sum_told(n: usize, sum: u64) -> Covered
+fn sum_told(n: usize, sum: u64) -> Result<u64, Refusal>
     ensures { told_covered result ≡ or_too_many n sum }
 {
     if RECORD_LIMIT < n {
-        return Covered::Refused(55);
+        return Err(Refusal::InputTooLong);
     }
-    Covered::Samples(sum)
+    Ok(sum)
 }
 
 // The samples that the rows cover.
-pub fn covered_samples(rows: &[SampleToGroupEntry]) -> Covered
+pub fn covered_samples(rows: &[SampleToGroupEntry]) -> Result<u64, Refusal>
     ensures { told_covered result ≡ total_in rows.now }
 {
     let n = row_count(rows);
@@ -162,31 +142,31 @@ fn record_at(numbers: &[RowNumber], k: usize) -> SampleToGroupEntry
 }
 
 // What is answered where a run of so many numbers is written over so many rows.
-fn written_over(numbers: usize, rows: usize) -> Written
+fn written_over(numbers: usize, rows: usize) -> Result<usize, Refusal>
     ensures { told_written result ≡ copy_answer (numbers / record_numbers) rows }
 {
     let records = numbers / RECORD_NUMBERS;
     if RECORD_LIMIT < records {
-        return Written::Refused(55);
+        return Err(Refusal::InputTooLong);
     }
     if rows < records {
-        return Written::Refused(29);
+        return Err(Refusal::NoRecordLeft);
     }
-    Written::Rows(records)
+    Ok(records)
 }
 
 // How many rows an answer says are written.
-fn accepted(answer: Written) -> usize
+fn accepted(answer: Result<usize, Refusal>) -> usize
     ensures { result ≡ accepted_in answer }
 {
     match answer {
-        Written::Rows(n) => n,
-        Written::Refused(_) => 0,
+        Ok(n) => n,
+        Err(_) => 0,
     }
 }
 
 // The records of a run of numbers are written in front; the rows behind them stay.
-pub fn write_rows(numbers: &[RowNumber], rows: &mut [SampleToGroupEntry]) -> Written
+pub fn write_rows(numbers: &[RowNumber], rows: &mut [SampleToGroupEntry]) -> Result<usize, Refusal>
     ensures { GivesRows numbers.now rows.old rows.new result }
 {
     let answer = written_over(numbers.len(), rows.len());
@@ -230,17 +210,17 @@ fn pass_row(search: Search, row: SampleToGroupEntry, rows: usize) -> Search
     }
 }
 
-fn index_told(n: usize, search: Search) -> Found
+fn index_told(n: usize, search: Search) -> Result<DescriptionIndex, Refusal>
     ensures { told_index result ≡ or_too_many n search.index }
 {
     if RECORD_LIMIT < n {
-        return Found::Refused(55);
+        return Err(Refusal::InputTooLong);
     }
-    Found::Index(DescriptionIndex(search.index))
+    Ok(DescriptionIndex(search.index))
 }
 
 // The index of the row that covers a sample; 0 past the end. No row behind that one is read.
-pub fn group_index_for_sample(rows: &[SampleToGroupEntry], sample: SampleNumber) -> Found
+pub fn group_index_for_sample(rows: &[SampleToGroupEntry], sample: SampleNumber) -> Result<DescriptionIndex, Refusal>
     ensures { told_index result ≡ lookup_in rows.now sample.0 }
 {
     let n = row_count(rows);

@@ -8,20 +8,9 @@ ghost use Rattle.table_rows.specs.Row.{lookup, total, rows_of, records_in, index
 ghost use Rattle.base_ids.specs.Limits.{record_limit};
 ghost use Rattle.table_rows.specs.Found.{told_index, told_covered};
 
+use base_fields::refusal::Refusal;
 use base_ids::{DescriptionIndex, RECORD_LIMIT, RowNumber, SampleCount, SampleNumber};
 use record::{count_at, description_at, record_count};
-
-#[derive(Clone, Copy)]
-pub enum Found {
-    Index(DescriptionIndex),
-    Refused(u32),
-}
-
-#[derive(Clone, Copy)]
-pub enum Covered {
-    Samples(u64),
-    Refused(u32),
-}
 
 // What a table's reader found, beside the rows that it wrote.
 #[derive(Clone, Copy)]
@@ -29,12 +18,6 @@ pub struct SampleToGroup {
     pub grouping_type: u32,
     pub grouping_type_parameter: u32,
     pub entry_count: usize,
-}
-
-#[derive(Clone, Copy)]
-pub enum ParsedTable {
-    Table(SampleToGroup),
-    Refused(u32),
 }
 
 fn index_at(rows: &[RowNumber], sample: SampleCount) -> u32
@@ -75,22 +58,22 @@ fn sum_of_counts(rows: &[RowNumber]) -> u64
 }
 
 // The index of the row that covers a sample; 0 past the end.
-pub fn group_index_for_sample(rows: &[RowNumber], sample: SampleNumber) -> Found
+pub fn group_index_for_sample(rows: &[RowNumber], sample: SampleNumber) -> Result<DescriptionIndex, Refusal>
     ensures { told_index result ≡ lookup rows.now sample.0 }
 {
     if RECORD_LIMIT < record_count(rows) {
-        return Found::Refused(55);
+        return Err(Refusal::InputTooLong);
     }
     let k = sample.0;
-    Found::Index(DescriptionIndex(index_at(rows, k)))
+    Ok(DescriptionIndex(index_at(rows, k)))
 }
 
 // The samples that the rows cover.
-pub fn covered_samples(rows: &[RowNumber]) -> Covered
+pub fn covered_samples(rows: &[RowNumber]) -> Result<u64, Refusal>
     ensures { told_covered result ≡ total rows.now }
 {
     if RECORD_LIMIT < record_count(rows) {
-        return Covered::Refused(55);
+        return Err(Refusal::InputTooLong);
     }
-    Covered::Samples(sum_of_counts(rows))
+    Ok(sum_of_counts(rows))
 }

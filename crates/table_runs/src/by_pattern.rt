@@ -5,7 +5,7 @@ ghost use Rattle.base_fields.specs.Answer.{input_limit};
 ghost use Rattle.table_runs.specs.Ahead.{all_in, ahead_in, row_place, WholeIn, GivesPattern};
 ghost use Rattle.table_runs.specs.Patterns.{covered_limit};
 
-use super::{NextPattern, SampleTable};
+use super::{SampleTable};
 use base_fields::read_u32;
 use table_csgp_head::{PatternsAt, pattern_at, patterns_behind};
 use table_patterns::PatternAt;
@@ -39,29 +39,26 @@ fn row_at(s: &[u8], at: usize) -> PatternAt
 }
 
 // The first of the patterns ahead.
-pub fn next_pattern(s: &[u8], table: SampleTable, here: PatternsAt) -> NextPattern
+pub fn next_pattern(s: &[u8], table: SampleTable, here: PatternsAt) -> Option<(PatternAt, PatternsAt)>
     requires { WholeIn s.now table here }
     ensures { GivesPattern s.now table here result }
 {
     let left = here.left;
     if left == 0 {
-        return NextPattern::End;
+        return None;
     }
     match table {
         SampleTable::Rows(_) => {
             let at = here.pair;
-            NextPattern::Pattern(
-                row_at(s, at),
-                PatternsAt {
+            Some((row_at(s, at), PatternsAt {
                     left: left - 1,
                     pair: at + 8,
                     indices: here.indices,
-                },
-            )
+                }))
         }
         SampleTable::Patterns(head) => {
             let pattern = pattern_at(s, head, here);
-            NextPattern::Pattern(pattern, patterns_behind(head, here, pattern.length))
+            Some((pattern, patterns_behind(head, here, pattern.length)))
         }
     }
 }
@@ -75,11 +72,11 @@ pub fn count_samples(s: &[u8], table: SampleTable) -> u64
     let mut sum: u64 = 0;
     loop {
         match next_pattern(s, table, here) {
-            NextPattern::Pattern(pattern, behind) => {
+            Some((pattern, behind)) => {
                 sum = sum + pattern.count as u64;
                 here = behind;
             }
-            NextPattern::End => return sum,
+            None => return sum,
         }
     }
 }

@@ -3,7 +3,7 @@ ghost use Rattle.std.specs.Prelude.{◌≡◌};
 ghost use Rattle.table_runs.specs.Ahead.{WholeIn};
 ghost use Rattle.table_runs.specs.Runs.{first_run, GivesNext};
 
-use super::{NextPattern, NextRun, RunCursor, SampleTable, first_pattern, next_pattern};
+use super::{RunCursor, SampleTable, first_pattern, next_pattern};
 use base_ids::DescriptionIndex;
 use table_patterns::run::run_at;
 
@@ -18,7 +18,7 @@ pub fn first_run(table: SampleTable) -> RunCursor
 }
 
 // The next samples of one index.
-pub fn next_run(s: &[u8], table: SampleTable, cursor: RunCursor) -> NextRun
+pub fn next_run(s: &[u8], table: SampleTable, cursor: RunCursor) -> Option<(PatternCount, DescriptionIndex, RunCursor)>
     requires { WholeIn s.now table cursor.here }
     ensures { GivesNext s.now table cursor result }
 {
@@ -26,22 +26,18 @@ pub fn next_run(s: &[u8], table: SampleTable, cursor: RunCursor) -> NextRun
     let mut k = cursor.sample;
     loop {
         match next_pattern(s, table, here) {
-            NextPattern::Pattern(pattern, behind) => {
+            Some((pattern, behind)) => {
                 if k < pattern.count {
                     let run = run_at(s, pattern, k);
-                    return NextRun::Run(
-                        run.count,
-                        DescriptionIndex(run.index),
-                        RunCursor {
+                    return Some((run.count, DescriptionIndex(run.index), RunCursor {
                             here,
                             sample: k + run.count,
-                        },
-                    );
+                        }));
                 }
                 here = behind;
                 k = 0;
             }
-            NextPattern::End => return NextRun::End,
+            None => return None,
         }
     }
 }

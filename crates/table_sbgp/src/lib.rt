@@ -7,10 +7,11 @@ ghost use Rattle.table_rows.specs.Found.{GivesTable};
 ghost use Rattle.table_sbgp.specs.Sbgp.{read_rows, parse_sbgp};
 ghost use Rattle.table_sbgp.specs.Head.{GivesSbgp};
 
+use base_fields::refusal::Refusal;
 use base_ids::RowNumber;
-use table_front::{ReadFront, TableKind, read_front};
+use table_front::{TableKind, read_front};
 use table_rows::record::{put_row, record_count};
-use table_rows::{ParsedTable, SampleToGroup};
+use table_rows::{SampleToGroup};
 
 // The fixed fields, and where the rows stand.
 #[derive(Clone, Copy)]
@@ -22,30 +23,24 @@ pub struct SbgpHead {
     pub entry_count: u32,
 }
 
-#[derive(Clone, Copy)]
-pub enum ReadSbgp {
-    Head(SbgpHead),
-    Refused(u32),
-}
-
 // The head of a payload whose rows are all there, or the first refusal.
-pub fn read_sbgp(s: &[u8]) -> ReadSbgp
+pub fn read_sbgp(s: &[u8]) -> Result<SbgpHead, Refusal>
     ensures { GivesSbgp s.now result }
 {
     match read_front(s, TableKind::Sbgp) {
-        ReadFront::Front(front) => {
+        Ok(front) => {
             let first = front.first;
             if s.len() < first + 8 * (front.count as usize) {
-                return ReadSbgp::Refused(23);
+                return Err(Refusal::RowsCut);
             }
-            ReadSbgp::Head(SbgpHead {
+            Ok(SbgpHead {
                 grouping_type: front.grouping_type,
                 grouping_type_parameter: front.grouping_type_parameter,
                 first,
                 entry_count: front.count,
             })
         }
-        ReadFront::Refused(n) => ReadSbgp::Refused(n),
+        Err(n) => Err(n),
     }
 }
 
@@ -65,23 +60,23 @@ pub fn fill(s: &[u8], first: usize, count: usize, rows: &mut [RowNumber])
 }
 
 // Reads an sbgp payload and writes its rows in front of the lent run. Nothing is written on refusal.
-pub fn parse_sbgp(s: &[u8], rows: &mut [RowNumber]) -> ParsedTable
+pub fn parse_sbgp(s: &[u8], rows: &mut [RowNumber]) -> Result<SampleToGroup, Refusal>
     ensures { GivesTable (parse_sbgp s.now (records_in rows.old)) rows.old rows.new result }
 {
     match read_sbgp(s) {
-        ReadSbgp::Head(h) => {
+        Ok(h) => {
             let first = h.first;
             let count = h.entry_count as usize;
             if record_count(rows) < count {
-                return ParsedTable::Refused(29);
+                return Err(Refusal::NoRecordLeft);
             }
             fill(s, first, count, rows);
-            ParsedTable::Table(SampleToGroup {
+            Ok(SampleToGroup {
                 grouping_type: h.grouping_type,
                 grouping_type_parameter: h.grouping_type_parameter,
                 entry_count: count,
             })
         }
-        ReadSbgp::Refused(n) => ParsedTable::Refused(n),
+        Err(n) => Err(n),
     }
 }

@@ -9,14 +9,14 @@ ghost use Rattle.table_sbgp.specs.Sbgp.{parse_sbgp};
 ghost use Rattle.table_csgp.specs.Table.{parse_csgp};
 ghost use Rattle.table_structs.specs.Table.{GivesTableIn, parsed_table};
 
+use base_fields::refusal::Refusal;
 use plan::plan_table;
 use stream::next_row;
 use table_front::TableKind;
 use table_row_structs::SampleToGroupEntry;
-use table_rows::ParsedTable;
 
 // Writes the rows in front, one by one; there are none on refusal.
-fn parse_table(s: &[u8], kind: TableKind, rows: &mut [SampleToGroupEntry]) -> ParsedTable
+fn parse_table(s: &[u8], kind: TableKind, rows: &mut [SampleToGroupEntry]) -> Result<SampleToGroup, Refusal>
     ensures { GivesTableIn (parsed_table kind s.now (length rows.old)) rows.old rows.new result }
 {
     let plan = plan_table(s, kind, rows.len());
@@ -32,14 +32,14 @@ fn parse_table(s: &[u8], kind: TableKind, rows: &mut [SampleToGroupEntry]) -> Pa
 }
 
 // Reads an sbgp payload and writes its rows in front of the lent records. Nothing is written on refusal.
-pub fn parse_sbgp(s: &[u8], rows: &mut [SampleToGroupEntry]) -> ParsedTable
+pub fn parse_sbgp(s: &[u8], rows: &mut [SampleToGroupEntry]) -> Result<SampleToGroup, Refusal>
     ensures { GivesTableIn (parse_sbgp s.now (length rows.old)) rows.old rows.new result }
 {
     parse_table(s, TableKind::Sbgp, rows)
 }
 
 // Reads a csgp payload and writes the rows of its samples in front of the lent records. Nothing is written on refusal.
-pub fn parse_csgp(s: &[u8], rows: &mut [SampleToGroupEntry]) -> ParsedTable
+pub fn parse_csgp(s: &[u8], rows: &mut [SampleToGroupEntry]) -> Result<SampleToGroup, Refusal>
     ensures { GivesTableIn (parse_csgp s.now (length rows.old)) rows.old rows.new result }
 {
     parse_table(s, TableKind::Csgp, rows)

@@ -7,18 +7,19 @@ ghost use Rattle.table_csgp.specs.Table.{parse_csgp};
 ghost use Rattle.table_structs.specs.Table.{parsed_table};
 ghost use Rattle.table_structs.specs.Plan.{GivesPlan};
 
+use base_fields::refusal::Refusal;
 use crate::stream::{RowCursor, first_row};
-use table_csgp::measure::{Measured, measure};
-use table_csgp_head::{PatternsAt, ReadCsgp, read_csgp};
+use table_csgp::measure::{measure};
+use table_csgp_head::{PatternsAt, read_csgp};
 use table_front::TableKind;
-use table_rows::{ParsedTable, SampleToGroup};
+use table_rows::{SampleToGroup};
 use table_runs::{RunCursor, SampleTable};
-use table_sbgp::{ReadSbgp, SbgpHead, read_sbgp};
+use table_sbgp::{SbgpHead, read_sbgp};
 
 // The answer, and the rows that are written: their number, and where they begin.
 #[derive(Clone, Copy)]
 pub struct Plan {
-    pub answer: ParsedTable,
+    pub answer: Result<SampleToGroup, Refusal>,
     pub count: usize,
     pub table: SampleTable,
     pub first: RowCursor,
@@ -29,7 +30,7 @@ fn no_rows(told: u32) -> Plan
     ensures { (told_table result.answer ≡ refused told) × (result.count ≡ 0) }
 {
     Plan {
-        answer: ParsedTable::Refused(told),
+        answer: Err(told),
         count: 0,
         table: SampleTable::Rows(SbgpHead {
             grouping_type: 0,
@@ -56,14 +57,14 @@ fn plan_sbgp(s: &[u8], room: usize) -> Plan
     ensures { GivesPlan (parse_sbgp s.now room) s.now room result }
 {
     match read_sbgp(s) {
-        ReadSbgp::Head(head) => {
+        Ok(head) => {
             let count = head.entry_count as usize;
             if room < count {
                 return no_rows(29);
             }
             let table = SampleTable::Rows(head);
             Plan {
-                answer: ParsedTable::Table(SampleToGroup {
+                answer: Ok(SampleToGroup {
                     grouping_type: head.grouping_type,
                     grouping_type_parameter: head.grouping_type_parameter,
                     entry_count: count,
@@ -73,7 +74,7 @@ fn plan_sbgp(s: &[u8], room: usize) -> Plan
                 first: first_row(s, table),
             }
         }
-        ReadSbgp::Refused(n) => no_rows(n),
+        Err(n) => no_rows(n),
     }
 }
 
@@ -81,11 +82,11 @@ fn plan_csgp(s: &[u8], room: usize) -> Plan
     ensures { GivesPlan (parse_csgp s.now room) s.now room result }
 {
     match read_csgp(s) {
-        ReadCsgp::Head(head) => match measure(s, head, room) {
-            Measured::Rows(count) => {
+        Ok(head) => match measure(s, head, room) {
+            Ok(count) => {
                 let table = SampleTable::Patterns(head);
                 Plan {
-                    answer: ParsedTable::Table(SampleToGroup {
+                    answer: Ok(SampleToGroup {
                         grouping_type: head.grouping_type,
                         grouping_type_parameter: head.grouping_type_parameter,
                         entry_count: count,
@@ -95,9 +96,9 @@ fn plan_csgp(s: &[u8], room: usize) -> Plan
                     first: first_row(s, table),
                 }
             }
-            Measured::Refused(n) => no_rows(n),
+            Err(n) => no_rows(n),
         },
-        ReadCsgp::Refused(n) => no_rows(n),
+        Err(n) => no_rows(n),
     }
 }
 

@@ -8,7 +8,7 @@ use base_fields::read_u32;
 use base_ids::SampleCount;
 use table_csgp_head::PatternsAt;
 use table_row_structs::SampleToGroupEntry;
-use table_runs::{NextRun, RunCursor, SampleTable, first_run, next_run};
+use table_runs::{RunCursor, SampleTable, first_run, next_run};
 
 // Of a csgp, the run in hand, which is part of the next row, and the runs behind it. Of an sbgp, the rows.
 #[derive(Clone, Copy)]
@@ -31,12 +31,12 @@ fn hold_run(s: &[u8], table: SampleTable, at: RunCursor) -> RowCursor
     ensures { HoldsRun s.now table at result }
 {
     match next_run(s, table, at) {
-        NextRun::Run(count, index, behind) => RowCursor {
+        Some((count, index, behind)) => RowCursor {
             run: behind,
             count,
             index: index.0,
         },
-        NextRun::End => RowCursor {
+        None => RowCursor {
             run: at,
             count: 0,
             index: 0,

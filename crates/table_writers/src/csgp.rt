@@ -8,7 +8,8 @@ ghost use Rattle.table_rows.specs.Joined.{joined};
 ghost use Rattle.table_writers.specs.Tally.{Tallies, length_by};
 ghost use Rattle.table_writers.specs.Halves.{Free, PutsRuns, pairs_put, indices_put, pair_put};
 
-use super::runs::{NextRun, next_run};
+use base_fields::refusal::Refusal;
+use super::runs::{next_run};
 use super::tally::{Tally, flags_of, halves_for, has_marks, index_needs};
 use super::words::put_head;
 use base_ids::{LOCAL_MARK, RowNumber, SampleCount};
@@ -32,13 +33,13 @@ fn put_pairs(rows: &[RowNumber], out: &mut [u8], first: usize, m: usize) -> usiz
     let mut i: usize = 0;
     loop {
         match next_run(rows, i) {
-            NextRun::Run(r) => {
+            Ok(Some(r)) => {
                 put_pair(out, h, m, r.count);
                 h = h + 1 + m;
                 i = r.next;
             }
-            NextRun::Over => return h,
-            NextRun::End => return h,
+            Err(Refusal::RowCountOver) => return h,
+            Ok(None) => return h,
         }
     }
 }
@@ -64,13 +65,13 @@ fn put_indices(rows: &[RowNumber], out: &mut [u8], first: usize, m: usize, marks
     let mut i: usize = 0;
     loop {
         match next_run(rows, i) {
-            NextRun::Run(r) => {
+            Ok(Some(r)) => {
                 put_number(out, h, m, index_field(r.index, m, marks) as u64);
                 h = h + m;
                 i = r.next;
             }
-            NextRun::Over => return,
-            NextRun::End => return,
+            Err(Refusal::RowCountOver) => return,
+            Ok(None) => return,
         }
     }
 }

@@ -12,45 +12,34 @@ ghost use Rattle.std.specs.Prelude.{◌≡◌, length};
 ghost use Rattle.table_writing.specs.Write.{quote_sbgp, quote_csgp, write_sbgp, write_csgp};
 ghost use Rattle.table_writers.specs.Told.{told_length, GivesWritten};
 
+use base_fields::refusal::Refusal;
 use base_ids::{RECORD_LIMIT, RowNumber};
 use csgp::put_csgp;
 use sbgp::put_sbgp;
 use table_rows::record::record_count;
 use tally::{Tallied, length_of, tally_rows};
 
-#[derive(Clone, Copy)]
-pub enum QuotedLength {
-    Length(usize),
-    Refused(u32),
-}
-
-#[derive(Clone, Copy)]
-pub enum WrittenTable {
-    Bytes(usize),
-    Refused(u32),
-}
-
 // The exact length of the sbgp that holds the rows.
-pub fn quote_sbgp(rows: &[RowNumber]) -> QuotedLength
+pub fn quote_sbgp(rows: &[RowNumber]) -> Result<usize, Refusal>
     ensures { told_length result ≡ quote_sbgp rows.now }
 {
     let records = record_count(rows);
     if records > RECORD_LIMIT {
-        return QuotedLength::Refused(55);
+        return Err(Refusal::InputTooLong);
     }
-    QuotedLength::Length(12 + 8 * records)
+    Ok(12 + 8 * records)
 }
 
 // The exact length of the csgp that gives the same samples.
-pub fn quote_csgp(rows: &[RowNumber]) -> QuotedLength
+pub fn quote_csgp(rows: &[RowNumber]) -> Result<usize, Refusal>
     ensures { told_length result ≡ quote_csgp rows.now }
 {
     if record_count(rows) > RECORD_LIMIT {
-        return QuotedLength::Refused(55);
+        return Err(Refusal::InputTooLong);
     }
     match tally_rows(rows) {
-        Tallied::Rows(t) => QuotedLength::Length(length_of(t)),
-        Tallied::Over => QuotedLength::Refused(28),
+        Tallied::Rows(t) => Ok(length_of(t)),
+        Tallied::Over => Err(Refusal::RowCountOver),
     }
 }
 
@@ -60,21 +49,21 @@ pub fn write_sbgp(
     rows: &[RowNumber],
     quoted: usize,
     out: &mut [u8],
-) -> WrittenTable
+) -> Result<usize, Refusal>
     ensures { GivesWritten (write_sbgp grouping_type rows.now quoted (length out.old)) out.old out.new result }
 {
     let records = record_count(rows);
     if RECORD_LIMIT < records {
-        return WrittenTable::Refused(55);
+        return Err(Refusal::InputTooLong);
     }
     if quoted != 12 + 8 * records {
-        return WrittenTable::Refused(63);
+        return Err(Refusal::LengthDisagrees);
     }
     if out.len() < quoted {
-        return WrittenTable::Refused(64);
+        return Err(Refusal::OutputShorter);
     }
     put_sbgp(grouping_type, rows, out);
-    WrittenTable::Bytes(quoted)
+    Ok(quoted)
 }
 
 // Writes the csgp in front of the output, where its length is the quoted one and the output has room.
@@ -83,23 +72,23 @@ pub fn write_csgp(
     rows: &[RowNumber],
     quoted: usize,
     out: &mut [u8],
-) -> WrittenTable
+) -> Result<usize, Refusal>
     ensures { GivesWritten (write_csgp grouping_type rows.now quoted (length out.old)) out.old out.new result }
 {
     if RECORD_LIMIT < record_count(rows) {
-        return WrittenTable::Refused(55);
+        return Err(Refusal::InputTooLong);
     }
     match tally_rows(rows) {
         Tallied::Rows(t) => {
             if quoted != length_of(t) {
-                return WrittenTable::Refused(63);
+                return Err(Refusal::LengthDisagrees);
             }
             if out.len() < quoted {
-                return WrittenTable::Refused(64);
+                return Err(Refusal::OutputShorter);
             }
             put_csgp(grouping_type, rows, t, out);
-            WrittenTable::Bytes(quoted)
+            Ok(quoted)
         }
-        Tallied::Over => WrittenTable::Refused(28),
+        Tallied::Over => Err(Refusal::RowCountOver),
     }
 }

@@ -4,6 +4,7 @@ ghost use Rattle.table_rows.specs.Row.{rows_of, records_in};
 ghost use Rattle.table_rows.specs.Joined.{joined};
 ghost use Rattle.table_writers.specs.Runs.{row, Passed, GivesNext};
 
+use base_fields::refusal::Refusal;
 use base_ids::{RowNumber, SampleCount};
 use table_rows::record::{count_at, description_at, record_count};
 
@@ -16,15 +17,6 @@ pub struct RunAt {
     pub count: SampleCount,
     pub index: u32,
     pub next: usize,
-}
-
-#[derive(Clone, Copy)]
-pub enum NextRun {
-    Run(RunAt),
-    // its count does not fit a field
-    Over,
-    // no row is left
-    End,
 }
 
 // The first record with samples.
@@ -44,7 +36,7 @@ fn pass_empty(rows: &[RowNumber], from: usize) -> usize
 }
 
 // A run of `count` samples, joined with the like rows from a record on.
-fn join(rows: &[RowNumber], from: usize, count: SampleCount, index: u32) -> NextRun
+fn join(rows: &[RowNumber], from: usize, count: SampleCount, index: u32) -> Result<Option<RunAt>, Refusal>
     requires { (from ≤ records_in rows.now) × (0 < count) }
     ensures { GivesNext (joined (row count index ∷ drop from (rows_of rows.now))) rows.now from result }
 {
@@ -55,28 +47,28 @@ fn join(rows: &[RowNumber], from: usize, count: SampleCount, index: u32) -> Next
         let more = count_at(rows, k);
         if more != 0 {
             if description_at(rows, k) != index {
-                return NextRun::Run(RunAt {
+                return Ok(Some(RunAt {
                     count: total,
                     index,
                     next: k,
-                });
+                }));
             }
             if FIELD_LIMIT - total < more {
-                return NextRun::Over;
+                return Err(Refusal::RowCountOver);
             }
             total = total + more;
         }
         k = k + 1;
     }
-    NextRun::Run(RunAt {
+    Ok(Some(RunAt {
         count: total,
         index,
         next: k,
-    })
+    }))
 }
 
 // The first row that remains of those from a record on.
-pub fn next_run(rows: &[RowNumber], from: usize) -> NextRun
+pub fn next_run(rows: &[RowNumber], from: usize) -> Result<Option<RunAt>, Refusal>
     requires { from ≤ records_in rows.now }
     ensures { GivesNext (joined (drop from (rows_of rows.now))) rows.now (from + 1) result }
 {
@@ -84,5 +76,5 @@ pub fn next_run(rows: &[RowNumber], from: usize) -> NextRun
     if k < record_count(rows) {
         return join(rows, k + 1, count_at(rows, k), description_at(rows, k));
     }
-    NextRun::End
+    Ok(None)
 }

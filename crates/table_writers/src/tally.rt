@@ -7,7 +7,8 @@ ghost use Rattle.table_rows.specs.Joined.{joined};
 ghost use Rattle.table_writing.specs.Bodies.{code_for};
 ghost use Rattle.table_writers.specs.Tally.{GivesTally, counted, marks_by, needs_by, flags_by, length_by};
 
-use super::runs::{NextRun, next_run};
+use base_fields::refusal::Refusal;
+use super::runs::{next_run};
 use base_ids::{LOCAL_MARK, RowNumber, SampleCount};
 
 #[derive(Clone, Copy)]
@@ -17,13 +18,6 @@ pub struct Tally {
     pub index: u32,
     // the largest index without its mark
     pub low: u32,
-}
-
-#[derive(Clone, Copy)]
-pub enum Tallied {
-    Rows(Tally),
-    // a count does not fit a field
-    Over,
 }
 
 fn larger_count(a: SampleCount, b: SampleCount) -> SampleCount
@@ -51,7 +45,7 @@ fn count_row(t: Tally, count: SampleCount, index: u32) -> Tally
     }
 }
 
-pub fn tally_rows(rows: &[RowNumber]) -> Tallied
+pub fn tally_rows(rows: &[RowNumber]) -> Result<Tally, Refusal>
     requires { records_in rows.now ≤ record_limit }
     ensures { GivesTally (joined (rows_of rows.now)) result }
 {
@@ -64,12 +58,12 @@ pub fn tally_rows(rows: &[RowNumber]) -> Tallied
     let mut i: usize = 0;
     loop {
         match next_run(rows, i) {
-            NextRun::Run(r) => {
+            Ok(Some(r)) => {
                 t = count_row(t, r.count, r.index);
                 i = r.next;
             }
-            NextRun::Over => return Tallied::Over,
-            NextRun::End => return Tallied::Rows(t),
+            Err(Refusal::RowCountOver) => return Err(Refusal::RowCountOver),
+            Ok(None) => return Ok(t),
         }
     }
 }

@@ -1,8 +1,8 @@
 // Runs a queue of fragments: rows that cover too many samples beside a full queue, what a refusal leaves, and which fragment leaves. Prints one line for each check.
 #![tactic(auto)]
 
+use base_fields::refusal::Refusal;
 use std::io;
-use use_fragment_queue::Queued;
 
 fn tell(rt: &impl Print, name: &str, same: bool) -> io::Result<()> {
     if same {
@@ -12,10 +12,10 @@ fn tell(rt: &impl Print, name: &str, same: bool) -> io::Result<()> {
     }
 }
 
-fn refused_with(told: Queued, n: u32) -> bool {
+fn refused_with(told: Result<(), Refusal>, n: u32) -> bool {
     match told {
-        Queued::Done => false,
-        Queued::Refused(m) => m == n,
+        Ok(()) => false,
+        Err(m) => m == n,
     }
 }
 

@@ -1,13 +1,12 @@
 // What a cue listing writes, and what it leaves as it was: the order of its refusals.
 use super::tell;
-use listing_cue::CueListing;
 use std::io;
 
 // The refusal of a cue listing of type roll; 0 where there is none.
 fn cue_refusal(body: &[u8], rows: &mut [u32], out: &mut [u8]) -> u32 {
     match listing_cue::cue_listing(body, 0x726f_6c6c, rows, out) {
-        CueListing::Listing(_) => 0,
-        CueListing::Refused(n) => n,
+        Ok(_) => 0,
+        Err(n) => n,
     }
 }
 

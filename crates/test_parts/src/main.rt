@@ -9,7 +9,7 @@ use base_ids::DescriptionIndex;
 use group_fragments::FoundPart;
 use std::io;
 use table_front::TableKind;
-use table_runs::{NextRun, ReadTable, first_run, next_run, read_table};
+use table_runs::{first_run, next_run, read_table};
 
 fn tell(rt: &impl Print, name: &str, same: bool) -> io::Result<()> {
     if same {
@@ -22,11 +22,11 @@ fn tell(rt: &impl Print, name: &str, same: bool) -> io::Result<()> {
 // The first run of a table's samples has this count and this index.
 fn first_run_is(s: &[u8], kind: TableKind, count: u32, index: u32) -> bool {
     match read_table(s, kind) {
-        ReadTable::Table(table) => match next_run(s, table, first_run(table)) {
-            NextRun::Run(n, i, _) => n == count && i.0 == index,
-            NextRun::End => false,
+        Ok(table) => match next_run(s, table, first_run(table)) {
+            Some((n, i, _)) => n == count && i.0 == index,
+            None => false,
         },
-        ReadTable::Refused(_) => false,
+        Err(_) => false,
     }
 }
 

@@ -1,26 +1,26 @@
 // Tables read into row structs, beside the same tables in flat rows, and the readers and writers of row structs.
+use base_fields::refusal::Refusal;
 use super::tell;
 use base_ids::SampleNumber;
 use std::io;
-use table_row_structs::{ReadRow, SampleToGroupEntry, SetRow, Written};
-use table_rows::{Covered, Found, ParsedTable};
+use table_row_structs::{SampleToGroupEntry};
 use test_struct_runs::TableRead;
 
 // Both are refused with this number; or, where it is 0, both are tables of the same type with as many rows.
-fn same_answer(a: ParsedTable, b: ParsedTable, refusal: u32) -> bool {
+fn same_answer(a: Result<SampleToGroup, Refusal>, b: Result<SampleToGroup, Refusal>, refusal: u32) -> bool {
     match a {
-        ParsedTable::Table(x) => match b {
-            ParsedTable::Table(y) => {
+        Ok(x) => match b {
+            Ok(y) => {
                 refusal == 0
                     && x.grouping_type == y.grouping_type
                     && x.grouping_type_parameter == y.grouping_type_parameter
                     && x.entry_count == y.entry_count
             }
-            ParsedTable::Refused(_) => false,
+            Err(_) => false,
         },
-        ParsedTable::Refused(n) => match b {
-            ParsedTable::Table(_) => false,
-            ParsedTable::Refused(m) => n == refusal && m == refusal,
+        Err(n) => match b {
+            Ok(_) => false,
+            Err(m) => n == refusal && m == refusal,
         },
     }
 }
@@ -59,7 +59,7 @@ fn same_numbers(a: &[u32; 8], b: &[u32; 8]) -> bool {
 }
 
 // A table in row structs has the answer and the rows that it has in flat rows; the answer is a table for refusal 0, else that refusal.
-fn same_read(read: TableRead, answer: ParsedTable, flat: &[u32; 8], refusal: u32) -> bool {
+fn same_read(read: TableRead, answer: Result<SampleToGroup, Refusal>, flat: &[u32; 8], refusal: u32) -> bool {
     let told = read.answer;
     let rows = read.rows;
     let numbers = numbers_of(rows);
@@ -113,37 +113,37 @@ fn rows_of(numbers: [u32; 8]) -> [SampleToGroupEntry; 4] {
     ]
 }
 
-fn same_index(a: Found, b: Found) -> bool {
+fn same_index(a: Result<DescriptionIndex, Refusal>, b: Result<DescriptionIndex, Refusal>) -> bool {
     match a {
-        Found::Index(i) => match b {
-            Found::Index(j) => i.0 == j.0,
-            Found::Refused(_) => false,
+        Ok(i) => match b {
+            Ok(j) => i.0 == j.0,
+            Err(_) => false,
         },
-        Found::Refused(_) => false,
+        Err(_) => false,
     }
 }
 
-fn same_sum(a: Covered, b: Covered) -> bool {
+fn same_sum(a: Result<u64, Refusal>, b: Result<u64, Refusal>) -> bool {
     match a {
-        Covered::Samples(n) => match b {
-            Covered::Samples(m) => n == m,
-            Covered::Refused(_) => false,
+        Ok(n) => match b {
+            Ok(m) => n == m,
+            Err(_) => false,
         },
-        Covered::Refused(_) => false,
+        Err(_) => false,
     }
 }
 
 // Row k of four, or none past them.
-fn is_row(r: ReadRow, numbers: &[u32; 8], k: usize) -> bool {
+fn is_row(r: Result<Option<SampleToGroupEntry>, Refusal>, numbers: &[u32; 8], k: usize) -> bool {
     match r {
-        ReadRow::Row(row) => {
+        Ok(Some(row)) => {
             if 4 <= k {
                 return false;
             }
             row.sample_count == numbers[2 * k] && row.group_description_index == numbers[2 * k + 1]
         }
-        ReadRow::Nothing => 4 <= k,
-        ReadRow::Refused(_) => false,
+        Ok(None) => 4 <= k,
+        Err(_) => false,
     }
 }
 
@@ -164,18 +164,18 @@ fn reads_agree(numbers: [u32; 8], k: usize, sample: u32) -> bool {
 }
 
 // The rows written, or 1000 and the refusal.
-fn told_written(r: Written) -> u64 {
+fn told_written(r: Result<usize, Refusal>) -> u64 {
     match r {
-        Written::Rows(n) => n as u64,
-        Written::Refused(n) => 1000 + n as u64,
+        Ok(n) => n as u64,
+        Err(n) => 1000 + n as u64,
     }
 }
 
 // 0 where a row was set, 255 for none.
-fn told_set(r: SetRow) -> u64 {
+fn told_set(r: Option<()>) -> u64 {
     match r {
-        SetRow::Set => 0,
-        SetRow::Nothing => 255,
+        Some(()) => 0,
+        None => 255,
     }
 }
 

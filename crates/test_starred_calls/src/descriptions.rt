@@ -2,26 +2,28 @@
 ghost use Rattle.test_starred.specs.Case.{AllHold};
 ghost use Rattle.test_starred_calls.specs.Descriptions.{sgpd_answered, entries_answered};
 
+use base_fields::refusal::Refusal;
+use base_fields::Part;
 use base_ids::DescriptionIndex;
-use group_entries::{DecodedAlst, DecodedRash, DecodedRoll, decode_alst, decode_rash, decode_roll};
-use group_sgpd::{FoundEntry, ParsedSgpd, entry_place, parse_sgpd};
+use group_entries::{decode_alst, decode_rash, decode_roll};
+use group_sgpd::{entry_place, parse_sgpd};
 
 // Version 0, type abcd.
 #[derive(Clone, Copy)]
 pub struct SgpdAnswers {
     // 3 entries in 9 bytes.
-    pub three: ParsedSgpd,
-    pub first: FoundEntry,
-    pub second: FoundEntry,
-    pub third: FoundEntry,
-    pub fourth: FoundEntry,
+    pub three: Result<SampleGroupDescription, Refusal>,
+    pub first: Result<Option<Part>, Refusal>,
+    pub second: Result<Option<Part>, Refusal>,
+    pub third: Result<Option<Part>, Refusal>,
+    pub fourth: Result<Option<Part>, Refusal>,
     // 2 in 3 bytes.
-    pub two: ParsedSgpd,
-    pub two_first: FoundEntry,
-    pub two_second: FoundEntry,
+    pub two: Result<SampleGroupDescription, Refusal>,
+    pub two_first: Result<Option<Part>, Refusal>,
+    pub two_second: Result<Option<Part>, Refusal>,
     // 2 in 2 bytes.
-    pub shared_out: ParsedSgpd,
-    pub shared_out_first: FoundEntry,
+    pub shared_out: Result<SampleGroupDescription, Refusal>,
+    pub shared_out_first: Result<Option<Part>, Refusal>,
 }
 
 pub fn sgpd_calls() -> SgpdAnswers
@@ -47,14 +49,14 @@ pub fn sgpd_calls() -> SgpdAnswers
 #[derive(Clone, Copy)]
 pub struct EntryAnswers {
     // 0xFFFE and 0x8000.
-    pub back_2: DecodedRoll,
-    pub back_32768: DecodedRoll,
+    pub back_2: Result<RollRecovery, Refusal>,
+    pub back_32768: Result<RollRecovery, Refusal>,
     // A rash of one point in 13 bytes and in 12.
-    pub rash_13: DecodedRash,
-    pub rash_12: DecodedRash,
+    pub rash_13: Result<RateShare, Refusal>,
+    pub rash_12: Result<RateShare, Refusal>,
     // An alst of roll count 0 in 4 bytes and in 5.
-    pub alst_4: DecodedAlst,
-    pub alst_5: DecodedAlst,
+    pub alst_4: Result<AlternativeStartup, Refusal>,
+    pub alst_5: Result<AlternativeStartup, Refusal>,
 }
 
 pub fn entry_calls() -> EntryAnswers

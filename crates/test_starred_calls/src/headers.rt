@@ -2,19 +2,21 @@
 ghost use Rattle.test_starred.specs.Case.{AllHold};
 ghost use Rattle.test_starred_calls.specs.Headers.{headers_answered};
 
-use atom_tree::{ReadHeader, ReadPayload, read_atom_header, read_payload};
+use base_fields::refusal::Refusal;
+use atom_tree::BodyAt;
+use atom_tree::{read_atom_header, read_payload};
 
 #[derive(Clone, Copy)]
 pub struct HeaderAnswers {
-    pub no_bytes: ReadHeader,
-    pub size_7: ReadHeader,
-    pub size_8: ReadHeader,
-    pub body_of_8: ReadPayload,
-    pub extended_15: ReadHeader,
-    pub extended_16: ReadHeader,
+    pub no_bytes: Result<Option<AtomHeader>, Refusal>,
+    pub size_7: Result<Option<AtomHeader>, Refusal>,
+    pub size_8: Result<Option<AtomHeader>, Refusal>,
+    pub body_of_8: Result<Option<BodyAt>, Refusal>,
+    pub extended_15: Result<Option<AtomHeader>, Refusal>,
+    pub extended_16: Result<Option<AtomHeader>, Refusal>,
     // Size 2^64 - 1, at place 0 and at place 8.
-    pub largest: ReadHeader,
-    pub far_end: ReadHeader,
+    pub largest: Result<Option<AtomHeader>, Refusal>,
+    pub far_end: Result<Option<AtomHeader>, Refusal>,
 }
 
 pub fn header_calls() -> HeaderAnswers

@@ -2,11 +2,12 @@
 ghost use Rattle.test_starred.specs.Case.{AllHold};
 ghost use Rattle.test_starred_calls.specs.Listing.{listing_answered};
 
-use listing_cue::{CueListing, cue_listing};
+use base_fields::refusal::Refusal;
+use listing_cue::{cue_listing};
 
 #[derive(Clone, Copy)]
 pub struct ListingAnswer {
-    pub told: CueListing,
+    pub told: Result<CueLengths, Refusal>,
     pub rows: [u32; 4],
     pub listing: [u8; 12],
 }

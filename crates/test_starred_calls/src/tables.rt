@@ -2,20 +2,21 @@
 ghost use Rattle.test_starred.specs.Case.{AllHold};
 ghost use Rattle.test_starred_calls.specs.Tables.{sbgp_answered, csgp_answered};
 
+use base_fields::refusal::Refusal;
 use base_ids::SampleNumber;
 use table_csgp::parse_csgp;
-use table_rows::{Covered, Found, ParsedTable, covered_samples, group_index_for_sample};
+use table_rows::{covered_samples, group_index_for_sample};
 use table_sbgp::parse_sbgp;
 
 #[derive(Clone, Copy)]
 pub struct SbgpAnswers {
-    pub read: ParsedTable,
+    pub read: Result<SampleToGroup, Refusal>,
     pub rows: [u32; 6],
-    pub sample_4: Found,
-    pub sample_5: Found,
-    pub covered: Covered,
+    pub sample_4: Result<DescriptionIndex, Refusal>,
+    pub sample_5: Result<DescriptionIndex, Refusal>,
+    pub covered: Result<u64, Refusal>,
     // A record too few.
-    pub short: ParsedTable,
+    pub short: Result<SampleToGroup, Refusal>,
     pub short_rows: [u32; 4],
 }
 
@@ -46,20 +47,20 @@ pub fn sbgp_calls() -> SbgpAnswers
 #[derive(Clone, Copy)]
 pub struct CsgpAnswers {
     // [1,2,2] count 7, with records enough and with one too few.
-    pub period: ParsedTable,
+    pub period: Result<SampleToGroup, Refusal>,
     pub period_rows: [u32; 10],
-    pub short: ParsedTable,
+    pub short: Result<SampleToGroup, Refusal>,
     pub short_rows: [u32; 8],
     // [5] count 2, [5,6] count 3.
-    pub joined: ParsedTable,
+    pub joined: Result<SampleToGroup, Refusal>,
     pub joined_rows: [u32; 6],
     // [7] count 0, [8] count 1.
-    pub unused: ParsedTable,
+    pub unused: Result<SampleToGroup, Refusal>,
     pub unused_rows: [u32; 2],
     // A first length of 0, with the second pair missing and with it.
-    pub cut: ParsedTable,
+    pub cut: Result<SampleToGroup, Refusal>,
     pub cut_rows: [u32; 2],
-    pub no_length: ParsedTable,
+    pub no_length: Result<SampleToGroup, Refusal>,
     pub no_length_rows: [u32; 2],
 }
 

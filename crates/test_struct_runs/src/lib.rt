@@ -6,16 +6,16 @@ ghost use Rattle.table_csgp.specs.Table.{parse_csgp};
 ghost use Rattle.table_structs.specs.Table.{GivesTableIn};
 ghost use Rattle.test_struct_runs.specs.Rows.{GivesReads, GivesWrites};
 
+use base_fields::refusal::Refusal;
 use base_ids::{RowNumber, SampleNumber};
 use table_row_structs::{
-    ReadRow, SampleToGroupEntry, SetRow, Written, covered_samples, group_index_for_sample, row_at,
+    SampleToGroupEntry, covered_samples, group_index_for_sample, row_at,
     set_row, write_rows,
 };
-use table_rows::{Covered, Found, ParsedTable};
 
 #[derive(Clone, Copy)]
 pub struct TableRead {
-    pub answer: ParsedTable,
+    pub answer: Result<SampleToGroup, Refusal>,
     pub rows: [SampleToGroupEntry; 4],
 }
 
@@ -37,9 +37,9 @@ pub fn csgp_over(s: &[u8], mut rows: [SampleToGroupEntry; 4]) -> TableRead
 
 #[derive(Clone, Copy)]
 pub struct RowsRead {
-    pub row: ReadRow,
-    pub index: Found,
-    pub covered: Covered,
+    pub row: Result<Option<SampleToGroupEntry>, Refusal>,
+    pub index: Result<DescriptionIndex, Refusal>,
+    pub covered: Result<u64, Refusal>,
 }
 
 // The three readers of rows, over four rows: row k, the index of a sample, and the samples covered.
@@ -58,8 +58,8 @@ pub fn read_over(rows: [SampleToGroupEntry; 4], k: usize, sample: SampleNumber) 
 
 #[derive(Clone, Copy)]
 pub struct RowsWritten {
-    pub written: Written,
-    pub set: SetRow,
+    pub written: Result<usize, Refusal>,
+    pub set: Option<()>,
     pub rows: [SampleToGroupEntry; 4],
 }
 

@@ -10,10 +10,11 @@ ghost use Rattle.std.proofs.Math.Option.{some};
 ghost use Rattle.use_decode_start.specs.Start.{distance_of_value, distance_of_meaning};
 ghost use Rattle.use_decode_start.specs.Inner.{told_distance, told_decoded};
 
-use super::{Decoded, Distance};
+use base_fields::refusal::Refusal;
+use super::{Distance};
 use base_fields::{bytes_at, read_u16};
 use base_ids::DescriptionIndex;
-use group_alike::{Front, front_of};
+use group_alike::{front_of};
 use group_entries::{EntryLayout, layout_of};
 use group_sgpd::SgpdHead;
 use listing_meanings::{MeaningAt, meaning_at};
@@ -30,13 +31,13 @@ fn signed_distance(x: u16) -> Distance
 }
 
 // The distance of an entry, by its layout.
-fn entry_distance(layout: EntryLayout, entry: &[u8]) -> Decoded
+fn entry_distance(layout: EntryLayout, entry: &[u8]) -> Result<Distance, Refusal>
     requires { length entry.now ≤ input_limit }
     ensures { told_decoded result ≡ and_then (decode_as layout entry.now) (λ v. given (distance_of_value v)) }
 {
     match front_of(layout, entry) {
-        Front::Bytes(_) => {}
-        Front::Refused(n) => return Decoded::Refused(n),
+        Ok(_) => {}
+        Err(n) => return Err(n),
     }
     let distance = match layout {
         EntryLayout::Roll => signed_distance(read_u16(entry, 0)),
@@ -47,17 +48,17 @@ fn entry_distance(layout: EntryLayout, entry: &[u8]) -> Decoded
         EntryLayout::Alst => Distance::Nothing,
         EntryLayout::Raw => Distance::Nothing,
     };
-    Decoded::Distance(distance)
+    Ok(distance)
 }
 
 // The distance of a meaning.
-fn meaning_distance(grouping_type: u32, s: &[u8], meaning: MeaningAt) -> Decoded
+fn meaning_distance(grouping_type: u32, s: &[u8], meaning: MeaningAt) -> Result<Distance, Refusal>
     requires { (length s.now ≤ input_limit) × (InsideAt s.now meaning) }
     ensures { told_decoded result ≡ and_then (meant_at grouping_type s.now meaning) (λ m. given (distance_of_meaning m)) }
 {
     match meaning {
-        MeaningAt::Outside => Decoded::Distance(Distance::Nothing),
-        MeaningAt::Missing => Decoded::Distance(Distance::Nothing),
+        MeaningAt::Outside => Ok(Distance::Nothing),
+        MeaningAt::Missing => Ok(Distance::Nothing),
         MeaningAt::Entry(place, size) => {
             entry_distance(layout_of(grouping_type), bytes_at(s, place, size))
         }
@@ -71,7 +72,7 @@ pub fn index_distance(
     marks: &[u32; 16],
     grouping_type: u32,
     index: DescriptionIndex,
-) -> Decoded
+) -> Result<Distance, Refusal>
     requires { (ReadWhole s.now head) × (Marks s.now marks.now) }
     ensures { told_decoded result ≡ and_then (meaning_in grouping_type s.now index.0) (λ m. given (distance_of_meaning m)) }
 {

@@ -14,19 +14,13 @@ ghost use Rattle.use_decode_start.specs.Start.{GivesStart};
 ghost use Rattle.use_decode_start.specs.Told.{told_start};
 ghost use Rattle.use_decode_start.specs.From.{GivesIn};
 
+use base_fields::refusal::Refusal;
 use base_fields::{bytes_at, fourcc};
 use base_ids::{SampleCount, SampleNumber};
 use group_sgpd::{SgpdHead, entry_marks};
-use listing_group::{OpenGroup, Records, open_group};
+use listing_group::{open_group};
 use search::search_table;
 use table_runs::SampleTable;
-
-#[derive(Clone, Copy)]
-pub enum DecodeStart {
-    Sample(SampleNumber),
-    Nothing,
-    Refused(u32),
-}
 
 // The distance of a member; nothing of other samples.
 #[derive(Clone, Copy)]
@@ -38,20 +32,6 @@ enum Distance {
     Behind(u16),
 }
 
-// The distance of an index, or its decoder's refusal.
-#[derive(Clone, Copy)]
-enum Decoded {
-    Distance(Distance),
-    Refused(u32),
-}
-
-// The greatest begin so far, as how many samples there are up to it (0: there is none), or a decoder's refusal.
-#[derive(Clone, Copy)]
-enum SearchedFor {
-    Latest(u64),
-    Refused(u32),
-}
-
 // In a group whose table covers so many samples: 62, the decoders' refusals, and the search.
 fn start_in(
     table_s: &[u8],
@@ -61,33 +41,27 @@ fn start_in(
     head: SgpdHead,
     grouping_type: u32,
     frame: SampleNumber,
-) -> DecodeStart
+) -> Result<Option<SampleNumber>, Refusal>
     requires { (WholeIn table_s.now table (all_in table)) × (covered ≡ covered_by (ahead_in table_s.now table (all_in table))) × (ReadWhole s.now head) }
     ensures { GivesIn table_s.now table s.now grouping_type frame.0 (told_start result) }
 {
     let wanted = frame.0 as u64;
     if covered <= wanted {
-        return DecodeStart::Refused(62);
+        return Err(Refusal::FrameNotCovered);
     }
     let marks = entry_marks(s, head);
-    let latest = match search_table(table_s, table, s, head, &marks, grouping_type, wanted) {
-        SearchedFor::Latest(b) => b,
-        SearchedFor::Refused(n) => return DecodeStart::Refused(n),
-    };
+    let latest = search_table(table_s, table, s, head, &marks, grouping_type, wanted)?;
     if latest == 0 {
-        return DecodeStart::Nothing;
+        return Ok(None);
     }
-    DecodeStart::Sample(SampleNumber((latest - 1) as SampleCount))
+    Ok(Some(SampleNumber((latest - 1) as SampleCount)))
 }
 
 // For a type with distances.
-fn decode_start(body: &[u8], grouping_type: u32, frame: SampleNumber) -> DecodeStart
+fn decode_start(body: &[u8], grouping_type: u32, frame: SampleNumber) -> Result<Option<SampleNumber>, Refusal>
     ensures { GivesStart body.now grouping_type frame.0 (told_start result) }
 {
-    let group = match open_group(body, grouping_type, Records::Enough) {
-        OpenGroup::Group(g) => g,
-        OpenGroup::Refused(n) => return DecodeStart::Refused(n),
-    };
+    let group = open_group(body, grouping_type, None)?;
     let table = group.table;
     let head = group.head;
     let table_s = bytes_at(body, group.table_place, group.table_size);
@@ -97,14 +71,14 @@ fn decode_start(body: &[u8], grouping_type: u32, frame: SampleNumber) -> DecodeS
 
 // By the roll group: a member with distance d of 0 or more begins at its sample and is clean d samples later; one with a negative distance
 // begins so many samples before, if there are so many, and is clean at its sample.
-pub fn roll_start(body: &[u8], frame: SampleNumber) -> DecodeStart
+pub fn roll_start(body: &[u8], frame: SampleNumber) -> Result<Option<SampleNumber>, Refusal>
     ensures { GivesStart body.now fourcc_of.roll frame.0 (told_start result) }
 {
     decode_start(body, fourcc::ROLL, frame)
 }
 
 // By the random access points: each begins and is clean at its sample.
-pub fn rap_start(body: &[u8], frame: SampleNumber) -> DecodeStart
+pub fn rap_start(body: &[u8], frame: SampleNumber) -> Result<Option<SampleNumber>, Refusal>
     ensures { GivesStart body.now fourcc_of.rap frame.0 (told_start result) }
 {
     decode_start(body, fourcc::RAP, frame)

@@ -7,13 +7,13 @@ ghost use Rattle.table_views.specs.Used.{up_to_frame};
 ghost use Rattle.table_runs.specs.Ahead.{all_in, ahead_in, WholeIn};
 ghost use Rattle.use_decode_start.specs.Inner.{told_latest, told_search, frame_limit, cut_place, searched_pattern, searched_in};
 
+use base_fields::refusal::Refusal;
 use super::distances::index_distance;
 use super::positions::{best_at, later, least};
-use super::{Decoded, SearchedFor};
 use base_ids::PatternCount;
 use group_sgpd::SgpdHead;
 use table_patterns::{PatternAt, index_at};
-use table_runs::{NextPattern, SampleTable, first_pattern, next_pattern};
+use table_runs::{SampleTable, first_pattern, next_pattern};
 
 // A pattern's first samples.
 fn cut_pattern(pattern: PatternAt, left: u64) -> PatternAt
@@ -40,7 +40,7 @@ fn search_pattern(
     wanted: u64,
     start: u64,
     before: u64,
-) -> SearchedFor
+) -> Result<u64, Refusal>
     requires { (Stands table_s.now pattern) × (ReadWhole s.now head) × (Marks s.now marks.now) × (wanted < frame_limit) × (start ≤ frame_limit) }
     ensures { told_search result ≡ searched_pattern grouping_type s.now wanted start (told_latest before) (pattern_in table_s.now pattern) }
 {
@@ -51,19 +51,19 @@ fn search_pattern(
     while i < length {
         let index = index_at(table_s, pattern, i);
         match index_distance(s, head, marks, grouping_type, index) {
-            Decoded::Distance(d) => {
+            Ok(d) => {
                 latest = later(latest, best_at(wanted, start, count, length, i, d));
                 i = i + 1;
             }
-            Decoded::Refused(n) => {
+            Err(n) => {
                 if i < count {
-                    return SearchedFor::Refused(n);
+                    return Err(n);
                 }
                 i = i + 1;
             }
         }
     }
-    SearchedFor::Latest(latest)
+    Ok(latest)
 }
 
 // The greatest begin of the members that are clean at or before the wanted frame; or the first refusal of an entry that a sample up to
@@ -76,7 +76,7 @@ pub fn search_table(
     marks: &[u32; 16],
     grouping_type: u32,
     wanted: u64,
-) -> SearchedFor
+) -> Result<u64, Refusal>
     requires { (WholeIn table_s.now table (all_in table)) × (ReadWhole s.now head) × (Marks s.now marks.now) × (wanted < frame_limit) }
     ensures { told_search result ≡ searched_in grouping_type s.now wanted (up_to_frame wanted (ahead_in table_s.now table (all_in table))) }
 {
@@ -86,7 +86,7 @@ pub fn search_table(
     let mut latest: u64 = 0;
     while 0 < left {
         match next_pattern(table_s, table, here) {
-            NextPattern::Pattern(pattern, behind) => {
+            Some((pattern, behind)) => {
                 let piece = cut_pattern(pattern, left);
                 match search_pattern(
                     table_s,
@@ -99,17 +99,17 @@ pub fn search_table(
                     start,
                     latest,
                 ) {
-                    SearchedFor::Latest(b) => {
+                    Ok(b) => {
                         here = behind;
                         left = left - piece.count as u64;
                         start = start + piece.count as u64;
                         latest = b;
                     }
-                    SearchedFor::Refused(n) => return SearchedFor::Refused(n),
+                    Err(n) => return Err(n),
                 }
             }
-            NextPattern::End => return SearchedFor::Latest(latest),
+            None => return Ok(latest),
         }
     }
-    SearchedFor::Latest(latest)
+    Ok(latest)
 }

@@ -10,23 +10,11 @@ ghost use Rattle.use_fragment_queue.specs.Held.{arrive, depart};
 ghost use Rattle.use_fragment_queue.specs.Ring.{held_count, covered_sum_of, member_sum};
 ghost use Rattle.use_fragment_queue.specs.Queued.{GivesQueue, GivesPlace, told_queued, told_located};
 
+use base_fields::refusal::Refusal;
+use crate::Place;
 use base_ids::{RECORD_LIMIT, RowNumber};
 use row_count::{Counted, count_fragment};
 use table_rows::record::record_count;
-
-// A call was taken, or refused: then the queue is as it was.
-#[derive(Clone, Copy)]
-pub enum Queued {
-    Done,
-    Refused(u32),
-}
-
-// The fragment that covers a sample, the oldest being 0, and the sample within it.
-#[derive(Clone, Copy)]
-pub enum Located {
-    Place(u64, u64),
-    Refused(u32),
-}
 
 // How many fragments are held, and the sums of their samples.
 #[derive(Clone, Copy)]
@@ -42,30 +30,30 @@ const ROOM: u64 = 64;
 const SUM_LIMIT: u64 = 274877906880;
 
 // A fragment comes with its rows: 55, 28, or 71 where the queue is full.
-pub fn fragment_arrive(queue: &mut [u64; 132], rows: &[RowNumber]) -> Queued
+pub fn fragment_arrive(queue: &mut [u64; 132], rows: &[RowNumber]) -> Result<(), Refusal>
     ensures { GivesQueue (arrive (rows_of rows.now)) queue.old queue.new (told_queued result) }
 {
     if RECORD_LIMIT < record_count(rows) {
-        return Queued::Refused(55);
+        return Err(Refusal::InputTooLong);
     }
     let fragment = match count_fragment(rows) {
         Counted::Fragment(f) => f,
-        Counted::Over => return Queued::Refused(28),
+        Counted::Over => return Err(Refusal::RowCountOver),
     };
     let covered = fragment.covered;
     let members = fragment.members;
     let count = queue[1];
     if ROOM <= count {
-        return Queued::Refused(71);
+        return Err(Refusal::QueueFull);
     }
     let covered_sum = queue[2];
     let members_sum = queue[3];
     // no queue made by these calls
     if SUM_LIMIT < covered_sum {
-        return Queued::Refused(71);
+        return Err(Refusal::QueueFull);
     }
     if SUM_LIMIT < members_sum {
-        return Queued::Refused(71);
+        return Err(Refusal::QueueFull);
     }
     let at = ((queue[0] % 64 + count) % 64) as usize;
     queue[4 + 2 * at] = covered;
@@ -73,16 +61,16 @@ pub fn fragment_arrive(queue: &mut [u64; 132], rows: &[RowNumber]) -> Queued
     queue[1] = count + 1;
     queue[2] = covered_sum + covered;
     queue[3] = members_sum + members;
-    Queued::Done
+    Ok(())
 }
 
 // The oldest fragment leaves: 72 where none is held.
-pub fn fragment_depart(queue: &mut [u64; 132]) -> Queued
+pub fn fragment_depart(queue: &mut [u64; 132]) -> Result<(), Refusal>
     ensures { GivesQueue depart queue.old queue.new (told_queued result) }
 {
     let count = queue[1];
     if count == 0 {
-        return Queued::Refused(72);
+        return Err(Refusal::QueueEmpty);
     }
     let at = (queue[0] % 64) as usize;
     let covered = queue[4 + 2 * at];
@@ -91,26 +79,26 @@ pub fn fragment_depart(queue: &mut [u64; 132]) -> Queued
     let members_sum = queue[3];
     // no queue made by these calls
     if covered_sum < covered {
-        return Queued::Refused(72);
+        return Err(Refusal::QueueEmpty);
     }
     if members_sum < members {
-        return Queued::Refused(72);
+        return Err(Refusal::QueueEmpty);
     }
     queue[0] = (at as u64 + 1) % 64;
     queue[1] = count - 1;
     queue[2] = covered_sum - covered;
     queue[3] = members_sum - members;
-    Queued::Done
+    Ok(())
 }
 
 // The fragment that covers a sample, counted from the oldest held: 73 where none does.
-pub fn fragment_lookup(queue: &[u64; 132], sample: u64) -> Located
+pub fn fragment_lookup(queue: &[u64; 132], sample: u64) -> Result<Place, Refusal>
     ensures { GivesPlace queue.now sample (told_located result) }
 {
     let count = queue[1];
     // no queue made by these calls
     if ROOM < count {
-        return Located::Refused(73);
+        return Err(Refusal::NotInQueue);
     }
     let mut at = (queue[0] % 64) as usize;
     let mut left = sample;
@@ -118,13 +106,13 @@ pub fn fragment_lookup(queue: &[u64; 132], sample: u64) -> Located
     while j < count {
         let covered = queue[4 + 2 * at];
         if left < covered {
-            return Located::Place(j, left);
+            return Ok(Place { fragment: j, sample: left });
         }
         left = left - covered;
         at = (at + 1) % 64;
         j = j + 1;
     }
-    Located::Refused(73)
+    Err(Refusal::NotInQueue)
 }
 
 // How many fragments are held, and both sums.

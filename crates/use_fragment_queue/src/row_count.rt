@@ -4,6 +4,7 @@ ghost use Rattle.base_fields.specs.Answer.{choose};
 ghost use Rattle.table_rows.specs.Row.{rows_of};
 ghost use Rattle.use_fragment_queue.specs.Queued.{counts, told_counted};
 
+use base_fields::refusal::Refusal;
 use base_ids::RowNumber;
 use table_rows::record::{count_at, description_at, record_count};
 
@@ -17,13 +18,6 @@ pub struct FragmentSamples {
     pub members: u64,
 }
 
-// A fragment, or more samples than one may have.
-#[derive(Clone, Copy)]
-pub enum Counted {
-    Fragment(FragmentSamples),
-    Over,
-}
-
 // The members among a row's n samples.
 fn member_samples(index: u32, n: u64) -> u64
     ensures { result ≡ choose (eqb index 0) 0 n }
@@ -32,7 +26,7 @@ fn member_samples(index: u32, n: u64) -> u64
 }
 
 // The limit is asked by what is left of it, so that no sum passes it.
-pub fn count_fragment(rows: &[RowNumber]) -> Counted
+pub fn count_fragment(rows: &[RowNumber]) -> Result<FragmentSamples, Refusal>
     ensures { told_counted result ≡ counts (rows_of rows.now) }
 {
     let records = record_count(rows);
@@ -42,12 +36,12 @@ pub fn count_fragment(rows: &[RowNumber]) -> Counted
     while k < records {
         let n = count_at(rows, k) as u64;
         if COVER_LIMIT - covered < n {
-            return Counted::Over;
+            return Err(Refusal::RowCountOver);
         }
         let m = member_samples(description_at(rows, k), n);
         covered = covered + n;
         members = members + m;
         k = k + 1;
     }
-    Counted::Fragment(FragmentSamples { covered, members })
+    Ok(FragmentSamples { covered, members })
 }

@@ -12,7 +12,7 @@ ghost use Rattle.use_profile.specs.Survey.{kind_told, kind_in, is_gap, is_known,
 use super::SampleKind;
 use base_fields::bytes_at;
 use base_ids::DescriptionIndex;
-use group_entries::{DecodedRap, decode_rap};
+use group_entries::{decode_rap};
 use group_sgpd::SgpdHead;
 use listing_meanings::{MeaningAt, meaning_at};
 
@@ -58,14 +58,14 @@ fn entry_kind(entry: &[u8]) -> SampleKind
     ensures { result ≡ kind_told (and_then (decode fourcc_of.rap entry.now) (λ v. given (value v))) }
 {
     match decode_rap(entry) {
-        DecodedRap::Rap(v) => {
+        Ok(v) => {
             if v.num_leading_samples_known {
                 SampleKind::Known
             } else {
                 SampleKind::Unknown
             }
         }
-        DecodedRap::Refused(_) => SampleKind::Unknown,
+        Err(_) => SampleKind::Unknown,
     }
 }
 

@@ -15,22 +15,15 @@ ghost use Rattle.use_profile.specs.File.{GivesFileVerdict};
 ghost use Rattle.use_profile.specs.Told.{told_verdict};
 ghost use Rattle.use_profile.specs.From.{JudgesIn};
 
-use atom_path::{FoundBody, find_stbl};
+use base_fields::refusal::Refusal;
+use atom_path::{find_stbl};
 use base_fields::{INPUT_LIMIT, bytes_at, fourcc};
 use group_sgpd::{SgpdHead, entry_marks};
-use listing_group::{OpenGroup, Records, open_group};
-use listing_meanings::{Checked, check_used};
+use listing_group::{open_group};
+use listing_meanings::{check_used};
 use rules::judge;
 use survey::survey_table;
 use table_runs::SampleTable;
-
-#[derive(Clone, Copy)]
-pub enum Verdict {
-    Meets,
-    // The first rule broken, counted from 1.
-    Breaks(u32),
-    Refused(u32),
-}
 
 // What an index means: kinds 0 and 1, and kind 2 by what it says of its leading samples.
 #[derive(Clone, Copy)]
@@ -59,28 +52,28 @@ struct Seen {
 }
 
 // In a group whose table covers so many samples: an entry that does not decode breaks rule 1; then rules 2 to 5.
-fn profile_in(table_s: &[u8], table: SampleTable, covered: u64, s: &[u8], head: SgpdHead) -> Verdict
+fn profile_in(table_s: &[u8], table: SampleTable, covered: u64, s: &[u8], head: SgpdHead) -> Result<Option<Rule>, Refusal>
     requires { (WholeIn table_s.now table (all_in table)) × (covered ≡ covered_by (ahead_in table_s.now table (all_in table))) × (ReadWhole s.now head) }
     ensures { JudgesIn table_s.now table s.now (told_verdict result) }
 {
     let marks = entry_marks(s, head);
     match check_used(table_s, table, s, head, &marks, fourcc::RAP) {
-        Checked::Passed => {}
-        Checked::Refused(_) => return Verdict::Breaks(1),
+        Ok(()) => {}
+        Err(_) => return Ok(Some(1)),
     }
     judge(covered, survey_table(table_s, table, s, head, &marks))
 }
 
 // Whether the stbl of this body meets the profile, or the first rule that it breaks. A group that is not opened breaks rule 1.
-pub fn profile(body: &[u8]) -> Verdict
+pub fn profile(body: &[u8]) -> Result<Option<Rule>, Refusal>
     ensures { GivesVerdict body.now (told_verdict result) }
 {
     if INPUT_LIMIT < body.len() {
-        return Verdict::Refused(55);
+        return Err(Refusal::InputTooLong);
     }
-    let group = match open_group(body, fourcc::RAP, Records::Enough) {
-        OpenGroup::Group(g) => g,
-        OpenGroup::Refused(_) => return Verdict::Breaks(1),
+    let group = match open_group(body, fourcc::RAP, None) {
+        Ok(g) => g,
+        Err(_) => return Ok(Some(1)),
     };
     let table = group.table;
     let head = group.head;
@@ -90,11 +83,11 @@ pub fn profile(body: &[u8]) -> Verdict
 }
 
 // The same for the stbl of a track of a film, counted from 0.
-pub fn file_profile(s: &[u8], track: u32) -> Verdict
+pub fn file_profile(s: &[u8], track: u32) -> Result<Option<Rule>, Refusal>
     ensures { GivesFileVerdict s.now track (told_verdict result) }
 {
     match find_stbl(s, track) {
-        FoundBody::Body(body) => profile(bytes_at(s, body.place as usize, body.size as usize)),
-        FoundBody::Refused(n) => Verdict::Refused(n),
+        Ok(body) => profile(bytes_at(s, body.place as usize, body.size as usize)),
+        Err(n) => Err(n),
     }
 }

@@ -4,7 +4,8 @@ ghost use Rattle.base_fields.specs.Answer.{given};
 ghost use Rattle.use_profile.specs.Told.{told_verdict};
 ghost use Rattle.use_profile.specs.Survey.{starts_by_number, short_by, first_broken, verdict_by, told_gaps, told_seen};
 
-use super::{Gaps, Seen, Verdict};
+use base_fields::refusal::Refusal;
+use super::{Gaps, Seen};
 
 // The most samples in a row that may be of kinds 0 and 1.
 const LONGEST_GAP: u64 = 600;
@@ -27,26 +28,26 @@ fn short_gaps(gaps: Gaps) -> bool
 }
 
 // The first of rules 2 to 5 that does not hold.
-fn first_broken(starts: bool, short: bool, known: bool, found: bool) -> Verdict
+fn first_broken(starts: bool, short: bool, known: bool, found: bool) -> Result<Option<Rule>, Refusal>
     ensures { told_verdict result ≡ given (first_broken starts short known found) }
 {
     if !starts {
-        return Verdict::Breaks(2);
+        return Ok(Some(2));
     }
     if !short {
-        return Verdict::Breaks(3);
+        return Ok(Some(3));
     }
     if !known {
-        return Verdict::Breaks(4);
+        return Ok(Some(4));
     }
     if !found {
-        return Verdict::Breaks(5);
+        return Ok(Some(5));
     }
-    Verdict::Meets
+    Ok(None)
 }
 
 // The verdict on a table that covers so many samples, once rule 1 holds.
-pub fn judge(covered: u64, seen: Seen) -> Verdict
+pub fn judge(covered: u64, seen: Seen) -> Result<Option<Rule>, Refusal>
     ensures { told_verdict result ≡ given (verdict_by covered (told_seen seen)) }
 {
     first_broken(

@@ -13,7 +13,7 @@ use super::stretches::{both, joined, no_gaps, one_more, repeated};
 use super::{Gaps, SampleKind, Seen};
 use group_sgpd::SgpdHead;
 use table_patterns::{PatternAt, index_at, used_positions};
-use table_runs::{NextPattern, SampleTable, first_pattern, next_pattern};
+use table_runs::{SampleTable, first_pattern, next_pattern};
 
 fn nothing_seen() -> Seen
     ensures { told_seen result ≡ nothing_seen }
@@ -101,11 +101,11 @@ pub fn survey_table(
     let mut seen = nothing_seen();
     loop {
         match next_pattern(table_s, table, here) {
-            NextPattern::Pattern(pattern, behind) => {
+            Some((pattern, behind)) => {
                 seen = seen_behind(seen, survey_pattern(table_s, pattern, s, head, marks));
                 here = behind;
             }
-            NextPattern::End => return seen,
+            None => return seen,
         }
     }
 }

@@ -7,10 +7,10 @@ ghost use Rattle.std.specs.Prelude.{◌≡◌};
 ghost use Rattle.use_sample_group.specs.SampleGroup.{sample_group, file_sample_group};
 ghost use Rattle.use_sample_group.specs.Told.{told_group};
 
-use atom_path::{FoundBody, find_stbl};
+use atom_path::{find_stbl};
 use base_fields::bytes_at;
 use base_ids::{DescriptionIndex, SampleNumber};
-use listing_group::{OpenGroup, Records, open_group};
+use listing_group::{open_group};
 use parts::{entry_of, group_from, index_of};
 
 #[derive(Clone, Copy)]
@@ -28,9 +28,9 @@ pub enum SampleGroup {
 pub fn sample_group(body: &[u8], grouping_type: u32, sample: SampleNumber) -> SampleGroup
     ensures { told_group result ≡ sample_group body.now grouping_type sample.0 }
 {
-    let group = match open_group(body, grouping_type, Records::Enough) {
-        OpenGroup::Group(g) => g,
-        OpenGroup::Refused(n) => return SampleGroup::Refused(n),
+    let group = match open_group(body, grouping_type, None) {
+        Ok(g) => g,
+        Err(n) => return SampleGroup::Refused(n),
     };
     let wanted = sample.0 as u64;
     if group.count <= wanted {
@@ -58,11 +58,11 @@ pub fn file_sample_group(
 {
     let found = find_stbl(s, track);
     match found {
-        FoundBody::Body(body) => {
+        Ok(body) => {
             let place = body.place as usize;
             let stbl = bytes_at(s, place, body.size as usize);
             group_from(place, sample_group(stbl, grouping_type, sample))
         }
-        FoundBody::Refused(n) => SampleGroup::Refused(n),
+        Err(n) => SampleGroup::Refused(n),
     }
 }

@@ -8,11 +8,12 @@ ghost use Rattle.table_runs.specs.Ahead.{all_in, ahead_in, WholeIn};
 ghost use Rattle.use_sample_group.specs.SampleGroup.{group_from, group_of};
 ghost use Rattle.use_sample_group.specs.Told.{told_group, StandsBehind};
 
+use base_fields::Part;
 use super::SampleGroup;
 use base_ids::{DescriptionIndex, PatternCount};
-use group_sgpd::{FoundEntry, entry_place};
+use group_sgpd::{entry_place};
 use table_patterns::{PatternAt, index_at};
-use table_runs::{NextPattern, SampleTable, first_pattern, next_pattern};
+use table_runs::{SampleTable, first_pattern, next_pattern};
 
 // The index that a pattern gives its sample k: its indices come again and again.
 fn turn_index(s: &[u8], pattern: PatternAt, k: PatternCount) -> DescriptionIndex
@@ -32,7 +33,7 @@ pub fn index_of(s: &[u8], table: SampleTable, sample: u64) -> DescriptionIndex
     let mut k = sample;
     loop {
         match next_pattern(s, table, here) {
-            NextPattern::Pattern(pattern, behind) => {
+            Some((pattern, behind)) => {
                 let count = pattern.count as u64;
                 if k < count {
                     return turn_index(s, pattern, k as PatternCount);
@@ -40,7 +41,7 @@ pub fn index_of(s: &[u8], table: SampleTable, sample: u64) -> DescriptionIndex
                 k = k - count;
                 here = behind;
             }
-            NextPattern::End => return DescriptionIndex(0),
+            None => return DescriptionIndex(0),
         }
     }
 }
@@ -50,14 +51,14 @@ pub fn entry_of(s: &[u8], index: DescriptionIndex) -> SampleGroup
     ensures { told_group result ≡ and_then (sgpd s.now) (λ entries. given (group_of entries index.0)) }
 {
     match entry_place(s, index) {
-        FoundEntry::Entry(place, size) => SampleGroup::Entry(index, place, size),
-        FoundEntry::Nothing => {
+        Ok(Some(Part { place, size })) => SampleGroup::Entry(index, place, size),
+        Ok(None) => {
             if index.0 == 0 {
                 return SampleGroup::Outside;
             }
             SampleGroup::Missing(index)
         }
-        FoundEntry::Refused(n) => SampleGroup::Refused(n),
+        Err(n) => SampleGroup::Refused(n),
     }
 }
 
