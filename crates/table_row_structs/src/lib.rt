@@ -4,7 +4,8 @@
 ghost use Rattle.std.specs.Prelude.{◌≡◌, ◌<◌, ◌/◌, length, get_or};
 ghost use Rattle.base_fields.specs.Answer.{given, none};
 ghost use Rattle.table_rows.specs.Row.{record_numbers, records_in, within_records};
-ghost use Rattle.table_rows.specs.Found.{told_index, told_covered};
+ghost use Rattle.base_fields.specs.Refusal.{told_value};
+ghost use Rattle.table_rows.specs.Found.{told_index};
 ghost use Rattle.table_row_structs.specs.Records.{no_row, row_in, set_answer, lookup_in, total_in, or_too_many, read_count, copy_answer, structs_of};
 ghost use Rattle.table_row_structs.specs.Steps.{told_row, told_set, GivesSet, accepted_in, search_from, passed, told_written, GivesRows};
 
@@ -103,7 +104,7 @@ pub fn set_row(rows: &mut [SampleToGroupEntry], k: usize, row: SampleToGroupEntr
 }
 
 fn sum_told(n: usize, sum: u64) -> Result<u64, Refusal>
-    ensures { told_covered result ≡ or_too_many n sum }
+    ensures { told_value result ≡ or_too_many n sum }
 {
     if RECORD_LIMIT < n {
         return Err(Refusal::InputTooLong);
@@ -113,7 +114,7 @@ fn sum_told(n: usize, sum: u64) -> Result<u64, Refusal>
 
 // The samples that the rows cover.
 pub fn covered_samples(rows: &[SampleToGroupEntry]) -> Result<u64, Refusal>
-    ensures { told_covered result ≡ total_in rows.now }
+    ensures { told_value result ≡ total_in rows.now }
 {
     let n = row_count(rows);
     let reads = rows_read(n);

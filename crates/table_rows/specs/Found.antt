@@ -1,21 +1,14 @@
--- Document 01's answer for each case of the lookups' enums.
-use Rattle.std.specs.Prelude.{ℕ, ◌≡◌, List, length}
-use Rattle.base_fields.specs.Answer.{Answer, given, refused, and_then}
+-- What the results of the lookups and of a table's reader tell.
+use Rattle.std.specs.Prelude.{ℕ, ◌≡◌, List, length, Result}
+use Rattle.base_fields.specs.Answer.{Answer, given, and_then}
+use Rattle.base_fields.specs.Refusal.{told}
+use Rattle.base_fields.specs.declared.refusal.Refusal.{Refusal}
+use Rattle.base_ids.specs.declared.DescriptionIndex.{DescriptionIndex}
 use Rattle.table_rows.specs.Row.{Table, filled, rows_of_table}
-use Rattle.table_rows.specs.declared.Found.{Found}
-use Rattle.table_rows.specs.declared.Found.TheVariants as found
-use Rattle.table_rows.specs.declared.Covered.{Covered}
-use Rattle.table_rows.specs.declared.Covered.TheVariants as sum
-use Rattle.table_rows.specs.declared.ParsedTable.{ParsedTable}
-use Rattle.table_rows.specs.declared.ParsedTable.TheVariants as parsed
+use Rattle.table_rows.specs.declared.SampleToGroup.{SampleToGroup}
 
-abbrev pub told_index : Found → Answer ℕ
-told_index (found.Index i) = given i.0
-told_index (found.Refused n) = refused n
-
-abbrev pub told_covered : Covered → Answer ℕ
-told_covered (sum.Samples n) = given n
-told_covered (sum.Refused n) = refused n
+abbrev pub told_index : Result DescriptionIndex Refusal → Answer ℕ
+told_index = told (λ i. i.0)
 
 -- what a table's reader answers beside the rows: type, parameter and row count
 pub record TableHead : Type 0 where
@@ -26,12 +19,14 @@ pub record TableHead : Type 0 where
 abbrev pub table_head : Table → TableHead
 table_head t = record { grouping_type_of = t.grouping_type_of; parameter = t.parameter; row_count = length t.rows }
 
-abbrev pub told_table : ParsedTable → Answer TableHead
-told_table (parsed.Table t) =
-    given (record { grouping_type_of = t.grouping_type; parameter = t.grouping_type_parameter; row_count = t.entry_count })
-told_table (parsed.Refused n) = refused n
+-- that head of the fields that were read
+abbrev pub table_read : SampleToGroup → TableHead
+table_read t = record { grouping_type_of = t.grouping_type; parameter = t.grouping_type_parameter; row_count = t.entry_count }
+
+abbrev pub told_table : Result SampleToGroup Refusal → Answer TableHead
+told_table = told table_read
 
 -- a reader's result and the run of numbers afterwards, where the answer is `told`
-pub record GivesTable (told : Answer Table) (before after : List ℕ) (r : ParsedTable) : Type 0 where
+pub record GivesTable (told : Answer Table) (before after : List ℕ) (r : Result SampleToGroup Refusal) : Type 0 where
   pub answer : told_table r ≡ and_then told (λ t. given (table_head t))
   pub rows : after ≡ filled rows_of_table told before

@@ -6,7 +6,8 @@ pub mod record;
 ghost use Rattle.std.specs.Prelude.{◌≡◌, ◌≤◌};
 ghost use Rattle.table_rows.specs.Row.{lookup, total, rows_of, records_in, index_at, covered};
 ghost use Rattle.base_ids.specs.Limits.{record_limit};
-ghost use Rattle.table_rows.specs.Found.{told_index, told_covered};
+ghost use Rattle.table_rows.specs.Found.{told_index};
+ghost use Rattle.base_fields.specs.Refusal.{told_value};
 
 use base_fields::refusal::Refusal;
 use base_ids::{DescriptionIndex, RECORD_LIMIT, RowNumber, SampleCount, SampleNumber};
@@ -58,7 +59,10 @@ fn sum_of_counts(rows: &[RowNumber]) -> u64
 }
 
 // The index of the row that covers a sample; 0 past the end.
-pub fn group_index_for_sample(rows: &[RowNumber], sample: SampleNumber) -> Result<DescriptionIndex, Refusal>
+pub fn group_index_for_sample(
+    rows: &[RowNumber],
+    sample: SampleNumber,
+) -> Result<DescriptionIndex, Refusal>
     ensures { told_index result ≡ lookup rows.now sample.0 }
 {
     if RECORD_LIMIT < record_count(rows) {
@@ -70,7 +74,7 @@ pub fn group_index_for_sample(rows: &[RowNumber], sample: SampleNumber) -> Resul
 
 // The samples that the rows cover.
 pub fn covered_samples(rows: &[RowNumber]) -> Result<u64, Refusal>
-    ensures { told_covered result ≡ total rows.now }
+    ensures { told_value result ≡ total rows.now }
 {
     if RECORD_LIMIT < record_count(rows) {
         return Err(Refusal::InputTooLong);

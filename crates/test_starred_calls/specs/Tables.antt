@@ -1,7 +1,8 @@
 -- Sample tables: each answer and the numbers of the lent rows afterwards. A call that is refused leaves the sevens.
 use Rattle.std.specs.Prelude.{ℕ, List, [], ◌∷◌, replicate}
 use Rattle.base_fields.specs.Answer.{Answer, given, refused}
-use Rattle.table_rows.specs.Found.{TableHead, told_table, told_index, told_covered}
+use Rattle.base_fields.specs.Refusal.{told_value}
+use Rattle.table_rows.specs.Found.{TableHead, told_table, told_index}
 use Rattle.test_starred.specs.Case.{Case, gives}
 use Rattle.test_starred_calls.specs.declared.tables.SbgpAnswers.{SbgpAnswers}
 use Rattle.test_starred_calls.specs.declared.tables.CsgpAnswers.{CsgpAnswers}
@@ -16,7 +17,7 @@ sbgp_answered r =
     gives r.rows (3 ∷ 1 ∷ 0 ∷ 9 ∷ 2 ∷ 1 ∷ []) ∷
     gives (told_index r.sample_4) (given 1) ∷
     gives (told_index r.sample_5) (given 0) ∷
-    gives (told_covered r.covered) (given 5) ∷
+    gives (told_value r.covered) (given 5) ∷
     gives (told_table r.short) (refused 29) ∷
     gives r.short_rows (replicate 4 7) ∷
     []

@@ -6,7 +6,7 @@ use lib.ListN.{length-take}
 use Rattle.base_fields.proofs.Answers.{given_inj, refused-given}
 use Rattle.base_ids.specs.Limits.{record_limit}
 use Rattle.table_rows.specs.Row.{covered, records_in}
-use Rattle.table_rows.specs.Found.{told_covered}
+use Rattle.base_fields.specs.Refusal.{told_value}
 use Rattle.table_repaint.specs.Repaint.{stated_rows}
 use Rattle.table_repaint.proofs.Counts.{stated_counts}
 use Rattle.table_repaint.proofs.Answer.{too_many, past-run, no_stretch, stated_total, past-total, by_rows}
@@ -33,14 +33,14 @@ module _ (c : Else-records-stated) where
 pub returns-in-Refused : goal.returns-in-Refused
 returns-in-Refused c =
     let run = (goal.at.returns-in-Refused c).Else-records-stated in
-    absurd (refused-given (ap told_covered (sym c.in-Refused.is) ∙ c.covered_samples.ensures ∙ stated_total _ _ (few run) (fit run)))
+    absurd (refused-given (ap told_value (sym c.in-Refused.is) ∙ c.covered_samples.ensures ∙ stated_total _ _ (few run) (fit run)))
 
 -- the total that was told
 module _ (c : In-Samples) where
   summed : c.in-Samples.n ≡ covered (stated_rows c.args.rows.now c.args.stated)
   summed =
       given_inj
-      (ap told_covered (sym c.in-Samples.is) ∙ c.covered_samples.ensures ∙ stated_total _ _ (omega arith) (omega arith))
+      (ap told_value (sym c.in-Samples.is) ∙ c.covered_samples.ensures ∙ stated_total _ _ (omega arith) (omega arith))
 
 pub returns-then-b-a : goal.returns-then-b-a
 returns-then-b-a c = let at = (goal.at.returns-then-b-a c).Else-records-stated in no_stretch _ _ _ _ _ (few at) (fit at) (omega (arith, c.if-b-a.true))
