@@ -25,16 +25,13 @@ fn index_at(rows: &[RowNumber], sample: SampleCount) -> u32
     requires { records_in rows.now ≤ record_limit }
     ensures { result ≡ index_at (rows_of rows.now) sample }
 {
-    let records = record_count(rows);
     let mut left = sample;
-    let mut k: usize = 0;
-    while k < records {
+    for k in 0..record_count(rows) {
         let count = count_at(rows, k);
         if left < count {
             return description_at(rows, k);
         }
-        left = left - count;
-        k = k + 1;
+        left -= count;
     }
     0
 }
@@ -47,10 +44,8 @@ fn sum_of_counts(rows: &[RowNumber]) -> u64
     let records = record_count(rows);
     let half = records / 2;
     let mut sum: u64 = 0;
-    let mut k: usize = 0;
-    while k < half {
-        sum = sum + (count_at(rows, k) as u64 + count_at(rows, half + k) as u64);
-        k = k + 1;
+    for k in 0..half {
+        sum += count_at(rows, k) as u64 + count_at(rows, half + k) as u64;
     }
     if records % 2 == 1 {
         return sum + count_at(rows, 2 * half) as u64;

@@ -8,7 +8,7 @@ use Rattle.table_rows.proofs.RowAt.{rows-length, index-here, index-behind, index
 use Rattle.table_rows.proofs.index_at.Goals as goal
 
 pub loop-k-init : goal.loop-k-init
-loop-k-init c = (search rules, c.record_count-records.ensures, refl)
+loop-k-init c = (search rules, c.record_count-k-end.ensures, refl)
 
 pub returns-then-left-count : goal.returns-then-left-count
 returns-then-left-count c =
