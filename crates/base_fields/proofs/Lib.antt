@@ -6,3 +6,4 @@ pub mod Records
 pub mod Firm
 pub mod Agree
 pub mod Both
+pub mod Handed

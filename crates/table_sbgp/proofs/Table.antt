@@ -7,9 +7,12 @@ use lib.ListN.{length, drop, length-append}
 use borrow.Author.Tests.{lt-ltb, le-ltb}
 use Rattle.base_fields.specs.Answer.{refused}
 use Rattle.base_fields.specs.Number.{be_at}
+use Rattle.base_fields.specs.Refusal.{number}
+use Rattle.base_fields.specs.declared.refusal.Refusal.{Refusal}
+use Rattle.base_fields.specs.declared.refusal.Refusal.TheVariants.{NoRecordLeft}
+use Rattle.std.specs.Prelude.{Ok, Err}
 use Rattle.table_rows.specs.Row.{Row, record_numbers, flat, records_in, put_row}
 use Rattle.table_rows.specs.Found.{GivesTable}
-use Rattle.table_rows.specs.declared.ParsedTable.TheVariants as parsed
 use Rattle.table_rows.proofs.Rows.{front-put}
 use Rattle.table_front.specs.Front.{count_of}
 use Rattle.table_front.specs.Told.{FrontOf}
@@ -67,11 +70,11 @@ put_next s p n l h =
 
 -- what parse_sbgp answers, by the payload's head
 module _ (s before : List ℕ) where
-  pub refusal : (n : ℕ) → sbgp s ≡ refused n → GivesTable (parse_sbgp s (records_in before)) before before (parsed.Refused n)
-  refusal n h = rw h (record { answer = refl; rows = refl })
+  pub refusal : (e : Refusal) → sbgp s ≡ refused (number e) → GivesTable (parse_sbgp s (records_in before)) before before (Err e)
+  refusal e h = rw h (record { answer = refl; rows = refl })
 
   module _ (h : SbgpHead) (l : SbgpLaid s h) where
-    pub no_room : records_in before < h.entry_count → GivesTable (parse_sbgp s (records_in before)) before before (parsed.Refused 29)
+    pub no_room : records_in before < h.entry_count → GivesTable (parse_sbgp s (records_in before)) before before (Err NoRecordLeft)
     no_room b =
         let e = read_rows-length h.entry_count s h.first in
         rw l.table (simp (e, lt-ltb _ _ b) (record { answer = refl; rows = refl }))
@@ -79,7 +82,7 @@ module _ (s before : List ℕ) where
     pub room : (after : List ℕ) → h.entry_count ≤ records_in before →
         after ≡ flat (read_rows h.entry_count s h.first) ++ drop (record_numbers * h.entry_count) before →
         GivesTable (parse_sbgp s (records_in before)) before after
-        (parsed.Table
+        (Ok
         (record {
           grouping_type = h.grouping_type;
           grouping_type_parameter = h.grouping_type_parameter;

@@ -10,8 +10,8 @@ ghost use Rattle.table_sbgp.specs.Head.{GivesSbgp};
 use base_fields::refusal::Refusal;
 use base_ids::RowNumber;
 use table_front::{TableKind, read_front};
+use table_rows::SampleToGroup;
 use table_rows::record::{put_row, record_count};
-use table_rows::{SampleToGroup};
 
 // The fixed fields, and where the rows stand.
 #[derive(Clone, Copy)]
@@ -27,21 +27,17 @@ pub struct SbgpHead {
 pub fn read_sbgp(s: &[u8]) -> Result<SbgpHead, Refusal>
     ensures { GivesSbgp s.now result }
 {
-    match read_front(s, TableKind::Sbgp) {
-        Ok(front) => {
-            let first = front.first;
-            if s.len() < first + 8 * (front.count as usize) {
-                return Err(Refusal::RowsCut);
-            }
-            Ok(SbgpHead {
-                grouping_type: front.grouping_type,
-                grouping_type_parameter: front.grouping_type_parameter,
-                first,
-                entry_count: front.count,
-            })
-        }
-        Err(n) => Err(n),
+    let front = read_front(s, TableKind::Sbgp)?;
+    let first = front.first;
+    if s.len() < first + 8 * (front.count as usize) {
+        return Err(Refusal::RowsCut);
     }
+    Ok(SbgpHead {
+        grouping_type: front.grouping_type,
+        grouping_type_parameter: front.grouping_type_parameter,
+        first,
+        entry_count: front.count,
+    })
 }
 
 // Writes the rows from place `first` of the payload in front of the lent run.
@@ -63,20 +59,16 @@ pub fn fill(s: &[u8], first: usize, count: usize, rows: &mut [RowNumber])
 pub fn parse_sbgp(s: &[u8], rows: &mut [RowNumber]) -> Result<SampleToGroup, Refusal>
     ensures { GivesTable (parse_sbgp s.now (records_in rows.old)) rows.old rows.new result }
 {
-    match read_sbgp(s) {
-        Ok(h) => {
-            let first = h.first;
-            let count = h.entry_count as usize;
-            if record_count(rows) < count {
-                return Err(Refusal::NoRecordLeft);
-            }
-            fill(s, first, count, rows);
-            Ok(SampleToGroup {
-                grouping_type: h.grouping_type,
-                grouping_type_parameter: h.grouping_type_parameter,
-                entry_count: count,
-            })
-        }
-        Err(n) => Err(n),
+    let head = read_sbgp(s)?;
+    let first = head.first;
+    let count = head.entry_count as usize;
+    if record_count(rows) < count {
+        return Err(Refusal::NoRecordLeft);
     }
+    fill(s, first, count, rows);
+    Ok(SampleToGroup {
+        grouping_type: head.grouping_type,
+        grouping_type_parameter: head.grouping_type_parameter,
+        entry_count: count,
+    })
 }
