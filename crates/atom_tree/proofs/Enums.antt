@@ -1,5 +1,5 @@
 -- What is left of an answer when a `let .. else` has taken its value away.
-use Rattle.std.proofs.Common.{◌≡◌, ℕ, refl}
+use Rattle.std.proofs.Common.{◌≡◌, refl}
 use Rattle.std.specs.Prelude.{Result, Ok, Err, Option, Some, None}
 use Rattle.base_fields.specs.Answer.{Answer, and_then}
 use Rattle.base_fields.specs.Refusal.{told_or_none}

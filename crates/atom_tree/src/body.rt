@@ -4,8 +4,7 @@ ghost use Rattle.std.proofs.Math.Option.{none, some};
 ghost use Rattle.atom_tree.specs.Atom.{declared_at, body_at, present, last_place};
 ghost use Rattle.atom_tree.specs.Told.{told_payload};
 
-use super::read_atom_header;
-use crate::BodyAt;
+use super::{BodyAt, read_atom_header};
 use base_fields::refusal::Refusal;
 
 // The largest body that is read.
@@ -18,7 +17,7 @@ fn declared_payload(s: &[u8], at: u64) -> Result<Option<BodyAt>, Refusal>
     let read = read_atom_header(s, at);
     let Ok(Some(h)) = read else {
         match read {
-            Err(n) => return Err(n),
+            Err(refusal) => return Err(refusal),
             _ => return Ok(None),
         }
     };

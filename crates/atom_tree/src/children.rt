@@ -4,9 +4,8 @@ ghost use Rattle.base_fields.specs.Answer.{and_then, input_limit};
 ghost use Rattle.atom_tree.specs.Atom.{header_at, child_at, past_end, end_of, inside, Sound};
 ghost use Rattle.atom_tree.specs.Told.{size_of, parent_end, header_of, told_child};
 
-use super::AtomHeader;
 use super::header::header_within;
-use crate::Child;
+use super::{AtomHeader, Child};
 use base_fields::INPUT_LIMIT;
 use base_fields::refusal::Refusal;
 
@@ -52,7 +51,7 @@ fn child_at(s: &[u8], at: u64, end: Option<u64>) -> Result<Option<Child>, Refusa
     let read = header_within(s, at);
     let Ok(Some(h)) = read else {
         match read {
-            Err(n) => return Err(n),
+            Err(refusal) => return Err(refusal),
             _ => return Ok(None),
         }
     };
@@ -69,7 +68,7 @@ fn past_end(at: u64, end: Option<u64>) -> bool
     }
 }
 
-// The child at a place of a container, and the place of the next one. Done, without reading, at or past the container's end.
+// The child at a place of a container, and the place of the next one. None, without reading, at or past the container's end.
 pub fn next_child(s: &[u8], at: u64, end: Option<u64>) -> Result<Option<Child>, Refusal>
     ensures { told_child result ≡ child_at s.now at (parent_end end) }
 {

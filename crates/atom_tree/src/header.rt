@@ -57,7 +57,7 @@ fn extended_header(s: &[u8], at: usize, fourcc: u32) -> Result<Option<AtomHeader
     Ok(Some(header_of(fourcc, at, Some(size), 16)))
 }
 
-// The header at a place of an input within the limit; Nothing where no byte stands there. It has the tests of `read_atom_header` but 55, for the walker, which has made that
+// The header at a place of an input within the limit; none where no byte stands there. It has the tests of `read_atom_header` but 55, for the walker, which has made that
 // one: with a reader of its own the compiler puts the header's reading in place of a call.
 pub fn header_within(s: &[u8], at: u64) -> Result<Option<AtomHeader>, Refusal>
     requires { length s.now ≤ input_limit }
@@ -74,7 +74,7 @@ pub fn header_within(s: &[u8], at: u64) -> Result<Option<AtomHeader>, Refusal>
     header_by_size(s, place, base_fields::read_u32(s, place))
 }
 
-// The header at a place; Nothing where no byte stands there.
+// The header at a place; none where no byte stands there.
 pub fn read_atom_header(s: &[u8], at: u64) -> Result<Option<AtomHeader>, Refusal>
     ensures { told_header result ≡ header_at s.now at }
 {

@@ -1,5 +1,5 @@
 use mathlib.Core.Path.{refl}
 use Rattle.atom_tree.proofs.children.past_end.Goals as goal
 
-pub returns-in-At : goal.returns-in-At
-returns-in-At c = rw c.in-At.is refl
+pub returns-in-Some : goal.returns-in-Some
+returns-in-Some c = rw c.in-Some.is refl
