@@ -1,13 +1,9 @@
 -- The replay by runs: the rows so far stand in a tail, their number and the last one's count and index.
-use Rattle.std.specs.Prelude.{◌≡◌, ℕ, ◌+◌, ◌-◌, ◌≤◌, ◌<◌, List, [], ◌∷◌, ltb, leb, eqb, length}
-use Rattle.base_fields.specs.Answer.{Answer, given, refused, choose, refuse_if}
+use Rattle.std.specs.Prelude.{◌≡◌, ℕ, ◌+◌, ◌-◌, ◌≤◌, ◌<◌, List, [], ◌∷◌, Option, Some, None, ltb, leb, eqb, length}
+use Rattle.base_fields.specs.Answer.{Answer, given, choose, refuse_if}
 use Rattle.table_rows.specs.Row.{Row}
 use Rattle.base_ids.specs.Limits.{count_limit}
 use Rattle.table_replay.specs.declared.enter.Tail.{Tail}
-use Rattle.table_replay.specs.declared.enter.Entered.{Entered}
-use Rattle.table_replay.specs.declared.enter.Entered.TheVariants as entered
-use Rattle.table_replay.specs.declared.singly.Single.{Single}
-use Rattle.table_replay.specs.declared.singly.Single.TheVariants as single
 
 -- the tail of rows, the last one first
 abbrev pub tail_of : List Row → Tail
@@ -24,20 +20,15 @@ begin_run room t n i = refuse_if (leb room t.rows) 29 (given (record { rows = t.
 abbrev pub enter_run : ℕ → Tail → ℕ → ℕ → Answer Tail
 enter_run room t n i = choose (ltb 0 t.rows) (choose (eqb t.index i) (join_run t n i) (begin_run room t n i)) (begin_run room t n i)
 
-abbrev pub told_entered : Entered → Answer Tail
-told_entered (entered.Next t) = given t
-told_entered entered.Over = refused 28
-told_entered entered.Full = refused 29
-
 -- one sample of index i entered, or left for the runs
 pub record Entering (room : ℕ) (t : Tail) (i : ℕ) (next : Tail) : Type 0 where
   pub enters : given next ≡ enter_run room t 1 i
   pub some : 0 < next.rows
   pub roomy : t.rows ≤ room → next.rows ≤ room
 
-abbrev pub GivesSingle : ℕ → Tail → ℕ → Single → Type 0
-GivesSingle room t i (single.Next next) = Entering room t i next
-GivesSingle room t i single.Stop = Unit
+abbrev pub GivesSingle : ℕ → Tail → ℕ → Option Tail → Type 0
+GivesSingle room t i (Some next) = Entering room t i next
+GivesSingle room t i None = Unit
 
 -- the last sample of a period, or of `count` samples, from sample k on, which has `turn` samples of its period before it
 pub record LastOf (length count k turn last : ℕ) : Type 0 where

@@ -1,9 +1,7 @@
 -- Whole periods of a pattern that are passed in one step.
-use Rattle.std.specs.Prelude.{◌≡◌, ◌⊎◌, ℕ, ◌+◌, ◌-◌, ◌*◌, ◌≤◌, ◌<◌}
+use Rattle.std.specs.Prelude.{◌≡◌, ◌⊎◌, ℕ, ◌+◌, ◌-◌, ◌*◌, ◌≤◌, ◌<◌, Option, Some, None}
 use Rattle.table_replay.specs.declared.enter.Tail.{Tail}
 use Rattle.table_replay.specs.declared.periods.Mark.{Mark}
-use Rattle.table_replay.specs.declared.periods.Passed.{Passed}
-use Rattle.table_replay.specs.declared.periods.Passed.TheVariants as passed
 
 -- the samples since the mark are one period, which left the last row as it found it, with more rows below it
 pub record AlikePeriod (mark : Mark) (tail : Tail) (k length : ℕ) : Type 0 where
@@ -37,6 +35,6 @@ pub record Overfull (mark : Mark) (tail : Tail) (k length count room : ℕ) : Ty
   pub repeats : Repeats mark tail k length count periods
   pub full : room < (repeated mark tail periods).rows
 
-abbrev pub GivesPassed : Mark → Tail → ℕ → ℕ → ℕ → ℕ → Passed → Type 0
-GivesPassed mark tail k length count room (passed.On t j next) = Passes mark tail k length count room t j next
-GivesPassed mark tail k length count room passed.Full = Overfull mark tail k length count room
+abbrev pub GivesPassed : Mark → Tail → ℕ → ℕ → ℕ → ℕ → Option (Tail × ℕ × Mark) → Type 0
+GivesPassed mark tail k length count room (Some (t, j, next)) = Passes mark tail k length count room t j next
+GivesPassed mark tail k length count room None = Overfull mark tail k length count room

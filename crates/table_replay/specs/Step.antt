@@ -1,6 +1,8 @@
 -- One step of the replay within a pattern, and what it does to the rows so far.
-use Rattle.std.specs.Prelude.{◌≡◌, ℕ, ◌-◌, ◌*◌, ◌≤◌, ◌<◌, List, length}
+use Rattle.std.specs.Prelude.{◌≡◌, ℕ, ◌-◌, ◌*◌, ◌≤◌, ◌<◌, List, Result, Ok, Err, length}
 use Rattle.base_fields.specs.Answer.{given, refused}
+use Rattle.base_fields.specs.Refusal.{number}
+use Rattle.base_fields.specs.declared.refusal.Refusal.{Refusal}
 use Rattle.base_ids.specs.Limits.{count_limit}
 use Rattle.table_rows.specs.Row.{Row, record_numbers, put_row}
 use Rattle.table_rows.specs.Pattern.{Pattern, samples_from}
@@ -13,8 +15,6 @@ use Rattle.table_replay.specs.Replay.{replay}
 use Rattle.table_replay.specs.declared.enter.Tail.{Tail}
 use Rattle.table_replay.specs.declared.periods.Mark.{Mark}
 use Rattle.table_replay.specs.declared.step.ReplayState.{ReplayState}
-use Rattle.table_replay.specs.declared.step.Stepped.{Stepped}
-use Rattle.table_replay.specs.declared.step.Stepped.TheVariants as stepped
 
 -- before a pattern's first sample
 abbrev pub start_of : Tail → ReplayState
@@ -66,7 +66,6 @@ pub record Goes (p : Pattern) (room : ℕ) (at next : ReplayState) (stood : ℕ)
   pub within : next.sample ≤ p.count
   pub steps : (rows : List Row) → StateOf p room rows at → Steps p room rows at next stood
 
-abbrev pub GivesStep : Pattern → ℕ → ReplayState → Stepped → Type 0
-GivesStep p room at (stepped.Next next stood) = Goes p room at next stood
-GivesStep p room at stepped.Over = Refuses p room at 28
-GivesStep p room at stepped.Full = Refuses p room at 29
+abbrev pub GivesStep : Pattern → ℕ → ReplayState → Result (ReplayState × ℕ) Refusal → Type 0
+GivesStep p room at (Ok (next, stood)) = Goes p room at next stood
+GivesStep p room at (Err e) = Refuses p room at (number e)

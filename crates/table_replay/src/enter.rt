@@ -1,6 +1,7 @@
 // A run of samples of one index, entered into the rows.
 ghost use Rattle.std.specs.Prelude.{◌≡◌};
-ghost use Rattle.table_replay.specs.Enter.{enter_run, told_entered};
+ghost use Rattle.base_fields.specs.Refusal.{told_value};
+ghost use Rattle.table_replay.specs.Enter.{enter_run};
 
 use base_fields::refusal::Refusal;
 use base_ids::{COUNT_LIMIT, SampleCount};
@@ -15,7 +16,7 @@ pub struct Tail {
 
 // `count` samples of one index join the last row, where it has that index, or begin a new one.
 pub fn enter_run(tail: Tail, room: usize, count: SampleCount, index: u32) -> Result<Tail, Refusal>
-    ensures { told_entered result ≡ enter_run room tail count index }
+    ensures { told_value result ≡ enter_run room tail count index }
 {
     if 0 < tail.rows {
         if tail.index == index {

@@ -4,9 +4,9 @@ ghost use Rattle.table_rows.specs.Row.{Row};
 ghost use Rattle.table_rows.specs.Pattern.{Pattern};
 ghost use Rattle.table_replay.specs.Step.{start_of, StateOf, NextRun, GivesStep};
 
-use base_fields::refusal::Refusal;
 use crate::enter::{Tail, enter_run};
 use crate::periods::{Mark, pass_periods};
+use base_fields::refusal::Refusal;
 use base_ids::PatternCount;
 use table_patterns::PatternAt;
 use table_patterns::run::Run;
@@ -30,23 +30,33 @@ pub fn pattern_start(tail: Tail) -> ReplayState
     }
 }
 
-// Enters the next run of a pattern's samples, and passes the periods behind it that repeat the one since the mark.
-pub fn replay_step(pattern: PatternAt, state: ReplayState, run: Run, room: usize) -> Result<(ReplayState, usize), Refusal>
+// Enters the next run of a pattern's samples, and passes the periods behind it that repeat the one since the mark. Told with the new state: how
+// many rows stood before those periods.
+pub fn replay_step(
+    pattern: PatternAt,
+    state: ReplayState,
+    run: Run,
+    room: usize,
+) -> Result<(ReplayState, usize), Refusal>
     requires { (p : Pattern) × NextRun p pattern state run × ((rows : List Row) × StateOf p room rows state) }
     ensures { (p : Pattern) → NextRun p pattern state run → GivesStep p room state result }
 {
-    let tail = match enter_run(state.tail, room, run.count, run.index) {
-        Ok(next) => next,
-        Err(Refusal::RowCountOver) => return Err(Refusal::RowCountOver),
-        Err(Refusal::NoRecordLeft) => return Err(Refusal::NoRecordLeft),
-    };
+    let tail = enter_run(state.tail, room, run.count, run.index)?;
     let k = state.sample + run.count;
-    match pass_periods(state.mark, tail, k, pattern.length, pattern.count, room) {
-        Some((next, sample, mark)) => Ok((ReplayState {
-                tail: next,
-                sample,
-                mark,
-            }, tail.rows)),
-        None => Err(Refusal::NoRecordLeft),
-    }
+    let (next, sample, mark) = pass_periods(
+        state.mark,
+        tail,
+        k,
+        pattern.length,
+        pattern.count,
+        room,
+    ).ok_or(Refusal::NoRecordLeft)?;
+    Ok((
+        ReplayState {
+            tail: next,
+            sample,
+            mark,
+        },
+        tail.rows,
+    ))
 }

@@ -1,14 +1,14 @@
+use Rattle.std.specs.Prelude.{Option, Some}
 use mathlib.Core.Path.{◌≡◌, sym, ap, subst, ◌∙◌}
 use Prim.Native.Nat.{ℕ, ◌+◌, ◌-◌, ◌*◌, ◌%◌, ◌≤◌, ◌<◌}
 use native.Mathlib.Nat.{mod-lt, lt_trans}
 use native.Mathlib.Omega.{arith}
 use Rattle.table_patterns.proofs.Runs.{field_end}
 use Rattle.table_replay.specs.Enter.{GivesSingle}
-use Rattle.table_replay.specs.declared.singly.Single.{Single}
-use Rattle.table_replay.specs.declared.singly.Single.TheVariants as single
+use Rattle.table_replay.specs.declared.enter.Tail.{Tail}
 use Rattle.table_replay.proofs.OneByOne.{next-onward, next-below, next-less, next_place, turn-index, singly-none, singly-on}
 use Rattle.table_replay.proofs.singly.enter_singly.Goals as goal
-use Rattle.table_replay.proofs.singly.enter_singly.Goals.{After-last_of_period-last, At-loop-sample, In-Next}
+use Rattle.table_replay.proofs.singly.enter_singly.Goals.{After-last_of_period-last, At-loop-sample, In-Some}
 
 -- the field of a turn ends within the payload
 turn_end : (c : After-last_of_period-last) (i : ℕ) → (let p = c.args.pattern in i < p.length → p.indices + p.width * i + p.width ≤ p.indices + p.width * p.length)
@@ -18,11 +18,11 @@ turn_end c i h = let p = c.args.pattern in field_end p.width p.indices i p.lengt
 turn_below : (c : At-loop-sample) → c.loop-sample.sample < c.last_of_period-last.result → (let a = c.args in let p = a.pattern in let k = a.state.sample in k % p.length + (c.loop-sample.sample - k) < p.length)
 turn_below c h = let l = c.last_of_period-last.ensures in let i = c.loop-sample.invariant in omega (arith, l.period, l.onward, i.0)
 
-abbrev Told : In-Next → Single → Type 0
+abbrev Told : In-Some → Option Tail → Type 0
 Told c r = GivesSingle c.args.room c.loop-sample.tail c.read_index-index.result r
 
-next-tail : (c : In-Next) → Told c (single.Next c.in-Next.next)
-next-tail c = subst (λ (r : Single). Told c r) c.in-Next.is c.enter_single.ensures
+next-tail : (c : In-Some) → Told c (Some c.in-Some.next)
+next-tail c = subst (λ (r : Option Tail). Told c r) c.in-Some.is c.enter_single.ensures
 
 pub returns-then-pattern-state : goal.returns-then-pattern-state
 returns-then-pattern-state c = singly-none _ _ _
@@ -53,8 +53,8 @@ read_index-index-requires c =
     let e = c.loop-sample.invariant.2 in
     (h, omega (arith, e), omega (arith, e, h.inside, turn_end (goal.at.read_index-index-requires c).After-last_of_period-last _ (turn_below (goal.at.read_index-index-requires c).At-loop-sample c.loop-sample-test.true)))
 
-pub returns-in-Stop : goal.returns-in-Stop
-returns-in-Stop c = c.loop-sample.invariant.3
+pub returns-in-None : goal.returns-in-None
+returns-in-None c = c.loop-sample.invariant.3
 
 pub overflow_add-at-in-loop-sample : goal.overflow_add-at-in-loop-sample
 overflow_add-at-in-loop-sample c =
@@ -70,7 +70,7 @@ loop-sample-preserved c =
     let i = c.loop-sample.invariant in
     let a = c.args in
     let k = c.loop-sample.sample in
-    let entered = next-tail (goal.at.loop-sample-preserved c).In-Next in
+    let entered = next-tail (goal.at.loop-sample-preserved c).In-Some in
     let index = turn-index a.s.now a.pattern a.state.sample k _ c.requires.some i.0 (turn_below (goal.at.loop-sample-preserved c).At-loop-sample c.loop-sample-test.true) i.2 ∙ sym c.read_index-index.ensures.0 in (
       next-onward _ _ i.0,
       next-below _ _ c.loop-sample-test.true,

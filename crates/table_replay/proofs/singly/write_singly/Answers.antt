@@ -1,3 +1,4 @@
+use Rattle.std.specs.Prelude.{Option, Some}
 use mathlib.Core.Path.{◌≡◌, refl, sym, ap, subst, ◌∙◌}
 use Prim.Native.Nat.{ℕ, ◌+◌, ◌-◌, ◌*◌, ◌%◌, ◌≤◌, ◌<◌}
 use native.Mathlib.Nat.{mod-lt, lt_trans}
@@ -5,11 +6,10 @@ use native.Mathlib.Omega.{arith}
 use Rattle.table_rows.specs.Row.{records_in}
 use Rattle.table_patterns.proofs.Runs.{field_end}
 use Rattle.table_replay.specs.Enter.{GivesSingle}
-use Rattle.table_replay.specs.declared.singly.Single.{Single}
-use Rattle.table_replay.specs.declared.singly.Single.TheVariants as single
+use Rattle.table_replay.specs.declared.enter.Tail.{Tail}
 use Rattle.table_replay.proofs.OneByOne.{next-onward, next-below, next-less, next_place, turn-index, written_none, written_on}
 use Rattle.table_replay.proofs.singly.write_singly.Goals as goal
-use Rattle.table_replay.proofs.singly.write_singly.Goals.{After-last_of_period-last, At-loop-sample, In-Next}
+use Rattle.table_replay.proofs.singly.write_singly.Goals.{After-last_of_period-last, At-loop-sample, In-Some}
 
 -- the field of a turn ends within the payload
 turn_end : (c : After-last_of_period-last) (i : ℕ) → (let p = c.args.pattern in i < p.length → p.indices + p.width * i + p.width ≤ p.indices + p.width * p.length)
@@ -19,11 +19,11 @@ turn_end c i h = let p = c.args.pattern in field_end p.width p.indices i p.lengt
 turn_below : (c : At-loop-sample) → c.loop-sample.sample < c.last_of_period-last.result → (let a = c.args in let p = a.pattern in let k = a.state.sample in k % p.length + (c.loop-sample.sample - k) < p.length)
 turn_below c h = let l = c.last_of_period-last.ensures in let i = c.loop-sample.invariant in omega (arith, l.period, l.onward, i.0)
 
-abbrev Told : In-Next → Single → Type 0
+abbrev Told : In-Some → Option Tail → Type 0
 Told c r = GivesSingle (records_in c.args.rows.now) c.loop-sample.tail c.read_index-index.result r
 
-next-tail : (c : In-Next) → Told c (single.Next c.in-Next.next)
-next-tail c = subst (λ (r : Single). Told c r) c.in-Next.is c.enter_single.ensures
+next-tail : (c : In-Some) → Told c (Some c.in-Some.next)
+next-tail c = subst (λ (r : Option Tail). Told c r) c.in-Some.is c.enter_single.ensures
 
 pub returns-then-pattern-state : goal.returns-then-pattern-state
 returns-then-pattern-state c = written_none _ _ _ _
@@ -54,19 +54,19 @@ read_index-index-requires c =
     let e = c.loop-sample.invariant.2 in
     (h, omega (arith, e), omega (arith, e, h.inside, turn_end (goal.at.read_index-index-requires c).After-last_of_period-last _ (turn_below (goal.at.read_index-index-requires c).At-loop-sample c.loop-sample-test.true)))
 
-pub shape_of-rows-in-Stop : goal.shape_of-rows-in-Stop
-shape_of-rows-in-Stop c = c.loop-sample.invariant.4
+pub shape_of-rows-in-None : goal.shape_of-rows-in-None
+shape_of-rows-in-None c = c.loop-sample.invariant.4
 
-pub returns-in-Stop : goal.returns-in-Stop
-returns-in-Stop c = c.loop-sample.invariant.5
+pub returns-in-None : goal.returns-in-None
+returns-in-None c = c.loop-sample.invariant.5
 
 pub overflow_sub-tail : goal.overflow_sub-tail
-overflow_sub-tail c = (next-tail (goal.at.overflow_sub-tail c).In-Next).some
+overflow_sub-tail c = (next-tail (goal.at.overflow_sub-tail c).In-Some).some
 
 pub put_row-requires : goal.put_row-requires
 put_row-requires c =
     let i = c.loop-sample.invariant in
-    let e = next-tail (goal.at.put_row-requires c).In-Next in
+    let e = next-tail (goal.at.put_row-requires c).In-Some in
     let r = e.roomy i.3 in
     omega (arith, e.some, i.4)
 
@@ -84,7 +84,7 @@ loop-sample-preserved c =
     let i = c.loop-sample.invariant in
     let a = c.args in
     let k = c.loop-sample.sample in
-    let entered = next-tail (goal.at.loop-sample-preserved c).In-Next in
+    let entered = next-tail (goal.at.loop-sample-preserved c).In-Some in
     let index = turn-index a.s.now a.pattern a.state.sample k _ c.requires.0.some i.0 (turn_below (goal.at.loop-sample-preserved c).At-loop-sample c.loop-sample-test.true) i.2 ∙ sym c.read_index-index.ensures.0 in (
       next-onward _ _ i.0,
       next-below _ _ c.loop-sample-test.true,
