@@ -2,26 +2,29 @@
 use mathlib.Core.Path.{◌≡◌, ap, sym, ◌∙◌}
 use mathlib.Core.List.{List}
 use Prim.Native.Nat.{ℕ, ◌<◌, ◌≤◌}
+use Rattle.std.specs.Prelude.{Result, Ok, Err}
+use Rattle.std.specs.Result.{IsErr, IsErrAnd}
+use Rattle.std.proofs.lemmas.Result.{err_from_is_err_and}
 use lib.Dec.{ltb, leb}
 use lib.ListN.{length}
 use borrow.Author.Tests.{ltb-false, le-leb, lt-leb}
 use Rattle.base_fields.specs.Answer.{Answer, given, none, refused, refuse_if, none_if, and_then, within, input_limit}
+use Rattle.base_fields.specs.Refusal.{told_value}
+use Rattle.base_fields.specs.declared.refusal.Refusal.{Refusal}
 use Rattle.base_fields.proofs.Answers.{and_then-refuse_if, given-past, within_then}
 use Rattle.group_entries.specs.Decoded.{by_number}
-use Rattle.group_entries.specs.Told.{told_length, GivesLength}
-use Rattle.group_entries.specs.declared.LengthCheck.{LengthCheck}
-use Rattle.group_entries.specs.declared.LengthCheck.TheVariants.{Enough}
+use Rattle.group_entries.specs.Told.{GivesLength}
 
 -- the check of the length, and then the rest
-module _ {s : List ℕ} {n : ℕ} {r : LengthCheck} (e : GivesLength s n r) where
-  pub checked : {A : Type 0} (rest : Answer A) {q : LengthCheck} → r ≡ q → and_then (told_length q) (λ _. rest) ≡ within s (refuse_if (ltb (length s) n) 40 rest)
+module _ {s : List ℕ} {n : ℕ} {r : Result Unit Refusal} (e : GivesLength s n r) where
+  pub checked : {A : Type 0} (rest : Answer A) {q : Result Unit Refusal} → r ≡ q → and_then (told_value q) (λ _. rest) ≡ within s (refuse_if (ltb (length s) n) 40 rest)
   checked rest p =
-      within_then (refuse_if (ltb (length s) n) 40 (given tt)) (λ _. rest) s (ap told_length (sym p) ∙ e.told)
+      within_then (refuse_if (ltb (length s) n) 40 (given tt)) (λ _. rest) s (ap told_value (sym p) ∙ e.told)
       ∙ ap (within s) (and_then-refuse_if (ltb (length s) n) 40 (given tt) (λ _. rest))
 
-  pub enough : r ≡ Enough → (n ≤ length s) × (length s ≤ input_limit)
+  pub enough : r ≡ Ok tt → (n ≤ length s) × (length s ≤ input_limit)
   enough p =
-      let short = given-past (ltb input_limit (length s)) 55 (refuse_if (ltb (length s) n) 40 (given tt)) (sym (ap told_length (sym p) ∙ e.told)) in
+      let short = given-past (ltb input_limit (length s)) 55 (refuse_if (ltb (length s) n) 40 (given tt)) (sym (ap told_value (sym p) ∙ e.told)) in
       let least = given-past (ltb (length s) n) 40 (given tt) short.1 in
       (ltb-false (length s) n least.0, ltb-false input_limit (length s) short.0)
 
@@ -47,3 +50,7 @@ module _ {A B : Type 0} {s : List ℕ} {x : Answer A} (count : A → ℕ) (k : �
 
   pub number-given : {v : A} → ToldWithin s x (given v) → k < count v → given b ≡ within s (by_number x count k b)
   number-given e h = simp (lt-leb _ _ h) at (numbered e)
+
+-- what an exit by `?` hands on
+pub handed : {A : Type 0} {e : Refusal} {r : Result A Refusal} → IsErr r × IsErrAnd r (λ n. n ≡ e) → r ≡ Err e
+handed {r = r} h = let x = err_from_is_err_and r h.1 in x.1 ∙ ap Err x.2

@@ -5,11 +5,13 @@ use Prim.Native.Nat.{ℕ, zero, suc, ◌+◌, ◌*◌, ◌/◌, ◌<◌, ◌≤�
 use native.Mathlib.Omega.{arith}
 use lib.ListN.{length, drop, set, length-append}
 use borrow.Author.Tests.{lt-ltb, le-ltb}
+use Rattle.std.specs.Prelude.{Result, Ok, Err}
 use Rattle.base_fields.specs.Answer.{Answer, given, refused, and_then, within, in_front}
 use Rattle.base_fields.specs.Number.{be_at}
 use Rattle.base_fields.specs.Records.{numbers_of, room_for, GivesRecords}
-use Rattle.base_fields.specs.declared.FilledRun.{FilledRun}
-use Rattle.base_fields.specs.declared.FilledRun.TheVariants.{Records, Refused}
+use Rattle.base_fields.specs.Refusal.{number}
+use Rattle.base_fields.specs.declared.refusal.Refusal.{Refusal}
+use Rattle.base_fields.specs.declared.refusal.Refusal.TheVariants as refusal
 use Rattle.base_fields.proofs.Answers.{within_then}
 use Rattle.base_fields.proofs.Records.{numbers-length, put_next}
 use Rattle.group_entries.specs.Decoded.{Point, Rash, decode_rash, point_count, point_at, up_to, rash_points}
@@ -73,19 +75,19 @@ module _ (s run : List ℕ) where
   answered : {y : Answer Rash} → ToldWithin s (decode_rash s) y → and_then y (λ r. room_for run (up_to (point_at s) 0 r.points)) ≡ within s (rash_points s run)
   answered e = within_then (decode_rash s) (λ r. room_for run (up_to (point_at s) 0 r.points)) s e.told
 
-  abbrev Gives : List ℕ → FilledRun → Type 0
+  abbrev Gives : List ℕ → Result ℕ Refusal → Type 0
   Gives after r = GivesRecords (within s (rash_points s run)) bitrate_of share_of run after r
 
-  pub points-refused : {n : ℕ} → ToldWithin s (decode_rash s) (refused n) → Gives run (Refused n)
+  pub points-refused : {e : Refusal} → ToldWithin s (decode_rash s) (refused (number e)) → Gives run (Err e)
   points-refused e = rw (← answered e) (record { answer = refl; run = refl })
 
   module _ {v : Rash} (e : ToldWithin s (decode_rash s) (given v)) where
-    pub no_room : length run / 2 < v.points → Gives run (Refused 29)
+    pub no_room : length run / 2 < v.points → Gives run (Err refusal.NoRecordLeft)
     no_room h =
         let l = up_to-length (point_at s) 0 v.points in
         rw (← answered e) (simp (l, lt-ltb _ _ h) (record { answer = refl; run = refl }))
 
-    pub room : (n : ℕ) (after : List ℕ) → v.points ≡ n → n ≤ length run / 2 → after ≡ in_front (numbers_of bitrate_of share_of (up_to (point_at s) 0 n)) run → Gives after (Records n)
+    pub room : (n : ℕ) (after : List ℕ) → v.points ≡ n → n ≤ length run / 2 → after ≡ in_front (numbers_of bitrate_of share_of (up_to (point_at s) 0 n)) run → Gives after (Ok n)
     room n after c h w =
         let l = up_to-length (point_at s) 0 n in
         rw (← answered e, c) (simp (l, le-ltb _ _ h) (record { answer = simp l; run = w }))

@@ -4,10 +4,8 @@ ghost use Rattle.base_fields.specs.Answer.{within};
 ghost use Rattle.group_entries.specs.Decoded.{decode_alst, alst_offset, alst_pair};
 ghost use Rattle.group_entries.specs.Told.{told_alst, told_offset, told_piece};
 
+use super::{AlternativeStartup, AlternativeStartupPiece, check_length};
 use base_fields::refusal::Refusal;
-use super::{
-    AlternativeStartup, AlternativeStartupPiece, check_length,
-};
 
 pub fn decode_alst(payload: &[u8]) -> Result<AlternativeStartup, Refusal>
     ensures { told_alst result ≡ within payload.now (decode_alst payload.now) }
@@ -42,11 +40,11 @@ pub fn alst_sample_offset(payload: &[u8], k: u32) -> Result<Option<u32>, Refusal
 pub fn alst_piece(payload: &[u8], k: u32) -> Result<Option<AlternativeStartupPiece>, Refusal>
     ensures { told_piece result ≡ within payload.now (alst_pair payload.now k) }
 {
-    let plain = decode_alst(payload)?;
-    if plain.piece_count <= k {
+    let alst = decode_alst(payload)?;
+    if alst.piece_count <= k {
         return Ok(None);
     }
-    let at = 4 + 4 * (plain.roll_count as usize) + 4 * (k as usize);
+    let at = 4 + 4 * (alst.roll_count as usize) + 4 * (k as usize);
     Ok(Some(AlternativeStartupPiece {
         num_output_samples: base_fields::read_u16(payload, at),
         num_total_samples: base_fields::read_u16(payload, at + 2),

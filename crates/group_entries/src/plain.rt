@@ -4,11 +4,8 @@ ghost use Rattle.base_fields.specs.Answer.{within};
 ghost use Rattle.group_entries.specs.Decoded.{signed16, decode_roll, decode_rap, decode_tele, decode_sap};
 ghost use Rattle.group_entries.specs.Told.{told_roll, told_rap, told_tele, told_sap};
 
+use super::{RollRecovery, StreamAccessPoint, TemporalLevel, VisualRandomAccess, check_length};
 use base_fields::refusal::Refusal;
-use super::{
-    RollRecovery, StreamAccessPoint,
-    TemporalLevel, VisualRandomAccess, check_length,
-};
 
 // The signed number that 16 bits hold.
 pub fn signed_u16(x: u16) -> i16
@@ -34,10 +31,8 @@ pub fn decode_roll(payload: &[u8]) -> Result<RollRecovery, Refusal>
 pub fn decode_prol(payload: &[u8]) -> Result<RollRecovery, Refusal>
     ensures { told_roll result ≡ within payload.now (decode_roll payload.now) }
 {
-    match decode_roll(payload) {
-        Ok(roll) => Ok(roll),
-        Err(n) => Err(n),
-    }
+    let roll = decode_roll(payload)?;
+    Ok(roll)
 }
 
 pub fn decode_rap(payload: &[u8]) -> Result<VisualRandomAccess, Refusal>

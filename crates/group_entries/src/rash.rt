@@ -5,10 +5,8 @@ ghost use Rattle.base_fields.specs.Records.{numbers_of, GivesRecords};
 ghost use Rattle.group_entries.specs.Decoded.{decode_rash, rash_point, rash_points, point_at, point_count, up_to};
 ghost use Rattle.group_entries.specs.Told.{told_rash, told_point};
 
+use super::{RateShare, RateShareOperationPoint, check_length};
 use base_fields::refusal::Refusal;
-use super::{
-    RateShare, RateShareOperationPoint, check_length,
-};
 
 // Where the points end: a single one is a share alone.
 pub fn rash_points_end(count: u16) -> usize
@@ -44,7 +42,10 @@ pub fn decode_rash(payload: &[u8]) -> Result<RateShare, Refusal>
     })
 }
 
-pub fn rash_operation_point(payload: &[u8], k: u32) -> Result<Option<RateShareOperationPoint>, Refusal>
+pub fn rash_operation_point(
+    payload: &[u8],
+    k: u32,
+) -> Result<Option<RateShareOperationPoint>, Refusal>
     ensures { told_point result ≡ within payload.now (rash_point payload.now k) }
 {
     let plain = decode_rash(payload)?;

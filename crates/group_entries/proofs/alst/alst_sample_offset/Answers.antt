@@ -4,25 +4,25 @@ use native.Mathlib.Omega.{arith}
 use Rattle.base_fields.specs.Answer.{given}
 use Rattle.group_entries.specs.Decoded.{offset_at}
 use Rattle.group_entries.specs.Told.{told_alst}
-use Rattle.group_entries.proofs.Front.{told-at, number-refused, number-none, number-given}
+use Rattle.group_entries.proofs.Front.{handed, told-at, number-refused, number-none, number-given}
 use Rattle.group_entries.proofs.Extent.{AlstExtent, alst-extent}
 use Rattle.group_entries.proofs.alst.alst_sample_offset.Goals as goal
-use Rattle.group_entries.proofs.alst.alst_sample_offset.Goals.{In-Alst}
+use Rattle.group_entries.proofs.alst.alst_sample_offset.Goals.{In_ok-plain}
 
 -- the offsets and the pairs fill the payload
-extent : (c : In-Alst) → AlstExtent c.args.payload.now c.in-Alst.v.roll_count c.in-Alst.v.piece_count
-extent c = alst-extent (told-at told_alst c.decode_alst.ensures c.in-Alst.is)
+extent : (c : In_ok-plain) → AlstExtent c.args.payload.now c.in_ok-plain.plain.roll_count c.in_ok-plain.plain.piece_count
+extent c = alst-extent (told-at told_alst c.decode_alst.ensures c.in_ok-plain.was)
 
-pub returns-in-Refused : goal.returns-in-Refused
-returns-in-Refused c = number-refused _ _ _ (told-at told_alst c.decode_alst.ensures c.in-Refused.is)
+pub returns-in_err-plain : goal.returns-in_err-plain
+returns-in_err-plain c = rw (handed c.from_residual.ensures) (number-refused _ _ _ (told-at told_alst c.decode_alst.ensures c.in_err-plain.was))
 
 pub returns-then-plain-k : goal.returns-then-plain-k
-returns-then-plain-k c = number-none _ _ _ (told-at told_alst c.decode_alst.ensures c.in-Alst.is) c.if-plain-k.true
+returns-then-plain-k c = number-none _ _ _ (told-at told_alst c.decode_alst.ensures c.in_ok-plain.was) c.if-plain-k.true
 
 pub read_u32-requires : goal.read_u32-requires
-read_u32-requires c = let x = extent (goal.at.read_u32-requires c).In-Alst in omega arith
+read_u32-requires c = let x = extent (goal.at.read_u32-requires c).In_ok-plain in omega arith
 
 pub returns : goal.returns
 unfolding offset_at
 returns c =
-    ap given c.read_u32.ensures.0 ∙ number-given _ _ _ (told-at told_alst c.decode_alst.ensures c.in-Alst.is) c.if-plain-k.false
+    ap given c.read_u32.ensures.0 ∙ number-given _ _ _ (told-at told_alst c.decode_alst.ensures c.in_ok-plain.was) c.if-plain-k.false

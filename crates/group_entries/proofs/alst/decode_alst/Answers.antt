@@ -8,7 +8,7 @@ use borrow.Author.Tests.{lt-ltb, le-ltb}
 use Rattle.base_fields.specs.Answer.{given, refuse_if, within}
 use Rattle.base_fields.specs.Number.{be_at}
 use Rattle.group_entries.specs.Decoded.{decode_alst}
-use Rattle.group_entries.proofs.Front.{checked, enough}
+use Rattle.group_entries.proofs.Front.{handed, checked, enough}
 use Rattle.group_entries.proofs.alst.decode_alst.Goals as goal
 use Rattle.group_entries.proofs.alst.decode_alst.Goals.{After-read_u16-roll_count}
 
@@ -27,14 +27,14 @@ reach :
       pairs = (length s - end) / 4;
     })))
 unfolding decode_alst
-reach c = sym (checked c.check_length.ensures _ c.in-Enough.is) ∙ simp (← c.read_u16-roll_count.ensures.0)
+reach c = sym (checked c.check_length.ensures _ c.in_ok-check_length.was) ∙ simp (← c.read_u16-roll_count.ensures.0)
 
-pub returns-in-Refused : goal.returns-in-Refused
+pub returns-in_err-check_length : goal.returns-in_err-check_length
 unfolding decode_alst
-returns-in-Refused c = checked c.check_length.ensures _ c.in-Refused.is
+returns-in_err-check_length c = rw (handed c.from_residual.ensures) (checked c.check_length.ensures _ c.in_err-check_length.was)
 
 pub read_u16-roll_count-requires : goal.read_u16-roll_count-requires
-read_u16-roll_count-requires c = omega (arith, (enough c.check_length.ensures c.in-Enough.is).0)
+read_u16-roll_count-requires c = omega (arith, (enough c.check_length.ensures c.in_ok-check_length.was).0)
 
 pub returns-then-payload-end : goal.returns-then-payload-end
 returns-then-payload-end c = simp (reach (goal.at.returns-then-payload-end c).After-read_u16-roll_count, lt-ltb _ _ c.if-payload-end.true)
@@ -44,7 +44,7 @@ returns-then-tail-gt0 c = simp (reach (goal.at.returns-then-tail-gt0 c).After-re
 
 pub overflow_cast-result : goal.overflow_cast-result
 overflow_cast-result c =
-    omega (arith, (enough c.check_length.ensures c.in-Enough.is).1)
+    omega (arith, (enough c.check_length.ensures c.in_ok-check_length.was).1)
 
 pub returns : goal.returns
 returns c = simp (reach (goal.at.returns c).After-read_u16-roll_count, le-ltb _ _ c.if-payload-end.false, le-ltb _ _ c.if-tail-gt0.false, ← c.read_u16.ensures.0)

@@ -7,7 +7,7 @@ use borrow.Author.Tests.{lt-ltb, le-ltb, eq-eqb, ne_eqb}
 use Rattle.base_fields.specs.Answer.{given, refuse_if, within}
 use Rattle.base_fields.specs.Number.{be_at}
 use Rattle.group_entries.specs.Decoded.{decode_rash}
-use Rattle.group_entries.proofs.Front.{checked, enough}
+use Rattle.group_entries.proofs.Front.{handed, checked, enough}
 use Rattle.group_entries.proofs.rash.decode_rash.Goals as goal
 use Rattle.group_entries.proofs.rash.decode_rash.Goals.{After-rash_points_end-end}
 
@@ -28,20 +28,20 @@ reach :
     })))
 unfolding decode_rash
 reach c =
-    sym (checked c.check_length.ensures _ c.in-Enough.is)
+    sym (checked c.check_length.ensures _ c.in_ok-check_length.was)
     ∙ simp (← c.read_u16-count.ensures.0, ne_eqb _ _ c.if-count-eq0.false, ← c.rash_points_end-end.ensures.0)
 
-pub returns-in-Refused : goal.returns-in-Refused
+pub returns-in_err-check_length : goal.returns-in_err-check_length
 unfolding decode_rash
-returns-in-Refused c = checked c.check_length.ensures _ c.in-Refused.is
+returns-in_err-check_length c = rw (handed c.from_residual.ensures) (checked c.check_length.ensures _ c.in_err-check_length.was)
 
 pub read_u16-count-requires : goal.read_u16-count-requires
-read_u16-count-requires c = (enough c.check_length.ensures c.in-Enough.is).0
+read_u16-count-requires c = (enough c.check_length.ensures c.in_ok-check_length.was).0
 
 pub returns-then-count-eq0 : goal.returns-then-count-eq0
 unfolding decode_rash
 returns-then-count-eq0 c =
-    sym (sym (checked c.check_length.ensures _ c.in-Enough.is) ∙ simp (← c.read_u16-count.ensures.0, eq-eqb _ _ c.if-count-eq0.true))
+    sym (sym (checked c.check_length.ensures _ c.in_ok-check_length.was) ∙ simp (← c.read_u16-count.ensures.0, eq-eqb _ _ c.if-count-eq0.true))
 
 pub returns-then-payload-end : goal.returns-then-payload-end
 returns-then-payload-end c = simp (reach (goal.at.returns-then-payload-end c).After-rash_points_end-end, lt-ltb _ _ c.if-payload-end.true)
