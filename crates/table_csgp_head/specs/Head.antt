@@ -1,8 +1,10 @@
 -- What the reader of a csgp payload hands on: its fixed fields with the two places of its bit stream, and the patterns that are still ahead
 -- of a place in it.
-use Rattle.std.specs.Prelude.{◌≡◌, ℕ, zero, suc, ◌+◌, ◌-◌, ◌*◌, ◌≤◌, List, [], ◌∷◌, length}
+use Rattle.std.specs.Prelude.{◌≡◌, ℕ, zero, suc, ◌+◌, ◌-◌, ◌*◌, ◌≤◌, List, [], ◌∷◌, length, Result, Ok, Err}
 use Rattle.base_fields.specs.Answer.{given, refused, input_limit}
 use Rattle.base_fields.specs.Number.{be_at, bits_at}
+use Rattle.base_fields.specs.Refusal.{number}
+use Rattle.base_fields.specs.declared.refusal.Refusal.{Refusal}
 use Rattle.table_front.specs.Front.{parameter_of, count_place}
 use Rattle.table_front.specs.declared.TableKind.TheVariants.{Csgp}
 use Rattle.table_patterns.specs.Place.{bit_count, pattern_in, Stands}
@@ -10,12 +12,8 @@ use Rattle.table_patterns.specs.declared.PatternAt.{PatternAt}
 use Rattle.table_rows.specs.Pattern.{Pattern}
 use Rattle.table_csgp_head.specs.Csgp.{index_width_of, count_width_of, length_width_of, has_marks, pattern_count_of, stream_place, index_place, Pair, read_pairs, read_from, read_all, csgp}
 use Rattle.table_csgp_head.specs.declared.CsgpHead.{CsgpHead}
-use Rattle.table_csgp_head.specs.declared.ReadCsgp.{ReadCsgp}
-use Rattle.table_csgp_head.specs.declared.ReadCsgp.TheVariants as read
 use Rattle.table_csgp_head.specs.declared.PatternsAt.{PatternsAt}
 use Rattle.table_csgp_head.specs.declared.PatternPair.{PatternPair}
-use Rattle.table_csgp_head.specs.declared.Check.{Check}
-use Rattle.table_csgp_head.specs.declared.Check.TheVariants as check
 
 -- the fixed fields
 pub record Fixed (s : List ℕ) (h : CsgpHead) : Type 0 where
@@ -32,14 +30,14 @@ pub record Fixed (s : List ℕ) (h : CsgpHead) : Type 0 where
   pub whole : count_place Csgp s + 4 ≤ length s
 
 -- after the fixed fields
-abbrev pub GivesFixed : List ℕ → ReadCsgp → Type 0
-GivesFixed s (read.Head h) = Fixed s h
-GivesFixed s (read.Refused n) = csgp s ≡ refused n
+abbrev pub GivesFixed : List ℕ → Result CsgpHead Refusal → Type 0
+GivesFixed s (Ok h) = Fixed s h
+GivesFixed s (Err e) = csgp s ≡ refused (number e)
 
 -- after the pair table
-abbrev pub GivesPairs : List ℕ → Check → Type 0
-GivesPairs s check.Passed = index_place s ≤ bit_count s
-GivesPairs s (check.Refused n) = read_pairs (pattern_count_of s) s (stream_place s) ≡ refused n
+abbrev pub GivesPairs : List ℕ → Result Unit Refusal → Type 0
+GivesPairs s (Ok u) = index_place s ≤ bit_count s
+GivesPairs s (Err e) = read_pairs (pattern_count_of s) s (stream_place s) ≡ refused (number e)
 
 -- the pair at bit place p
 abbrev pub pair_read : List ℕ → ℕ → Pair
@@ -81,9 +79,9 @@ pub record Read (n : ℕ) (s : List ℕ) (p q : ℕ) : Type 0 where
   pub whole : WholeFrom n s p q
   pub given : read_from n s p q ≡ given (patterns_from n s p q)
 
-abbrev pub GivesPatterns : List ℕ → Check → Type 0
-GivesPatterns s check.Passed = Read (pattern_count_of s) s (stream_place s) (index_place s)
-GivesPatterns s (check.Refused n) = read_all s ≡ refused n
+abbrev pub GivesPatterns : List ℕ → Result Unit Refusal → Type 0
+GivesPatterns s (Ok u) = Read (pattern_count_of s) s (stream_place s) (index_place s)
+GivesPatterns s (Err e) = read_all s ≡ refused (number e)
 
 abbrev pub all_patterns : CsgpHead → PatternsAt
 all_patterns h = record { left = h.pattern_count; pair = h.pairs; indices = h.indices }
@@ -109,6 +107,6 @@ pub record CsgpLaid (s : List ℕ) (h : CsgpHead) : Type 0 where
   pub whole : Whole s (all_patterns h)
   pub patterns : csgp s ≡ given (ahead s (all_patterns h))
 
-abbrev pub GivesCsgp : List ℕ → ReadCsgp → Type 0
-GivesCsgp s (read.Head h) = CsgpLaid s h
-GivesCsgp s (read.Refused n) = csgp s ≡ refused n
+abbrev pub GivesCsgp : List ℕ → Result CsgpHead Refusal → Type 0
+GivesCsgp s (Ok h) = CsgpLaid s h
+GivesCsgp s (Err e) = csgp s ≡ refused (number e)

@@ -1,11 +1,11 @@
 -- The check of a pattern's indices: how many of them are there, and whether one of these is too large.
-use Rattle.std.specs.Prelude.{◌≡◌, Bool, true, false, ℕ, suc, ◌+◌, ◌*◌, ◌<◌, ◌≤◌, List, eqb}
+use Rattle.std.specs.Prelude.{◌≡◌, Bool, true, false, ℕ, suc, ◌+◌, ◌*◌, ◌<◌, ◌≤◌, List, eqb, Result, Ok, Err}
 use Rattle.base_fields.specs.Answer.{given, refused, choose}
 use Rattle.base_fields.specs.Number.{bit_at}
+use Rattle.base_fields.specs.Refusal.{number}
+use Rattle.base_fields.specs.declared.refusal.Refusal.{Refusal}
 use Rattle.table_patterns.specs.Place.{bit_count, indices_at}
 use Rattle.table_csgp_head.specs.Csgp.{has_marks, index_width_of, too_large, read_indices}
-use Rattle.table_csgp_head.specs.declared.Check.{Check}
-use Rattle.table_csgp_head.specs.declared.Check.TheVariants as check
 
 -- only an index of 32 bits without a mark can be too large
 abbrev pub can_be_large_by : List ℕ → Bool
@@ -32,6 +32,6 @@ pub record IndicesRead (s : List ℕ) (q n : ℕ) : Type 0 where
   pub inside : q + index_width_of s * n ≤ bit_count s
   pub read : read_indices n s q ≡ given (indices_at (has_marks s) (index_width_of s) n s q)
 
-abbrev pub GivesIndices : List ℕ → ℕ → ℕ → Check → Type 0
-GivesIndices s q n check.Passed = IndicesRead s q n
-GivesIndices s q n (check.Refused m) = read_indices n s q ≡ refused m
+abbrev pub GivesIndices : List ℕ → ℕ → ℕ → Result Unit Refusal → Type 0
+GivesIndices s q n (Ok u) = IndicesRead s q n
+GivesIndices s q n (Err e) = read_indices n s q ≡ refused (number e)

@@ -6,11 +6,11 @@ ghost use Rattle.table_patterns.specs.Place.{bit_count};
 ghost use Rattle.table_csgp_head.specs.Csgp.{width_of, index_place};
 ghost use Rattle.table_csgp_head.specs.Head.{Fixed, GivesFixed, GivesPairs, GivesPatterns, GivesCsgp};
 
-use base_fields::refusal::Refusal;
 use super::indices::{can_be_large, check_indices};
 use super::walk::length_at;
 use super::{CsgpHead, first_pattern, patterns_behind};
 use base_fields::read_u8;
+use base_fields::refusal::Refusal;
 use table_front::{TableFront, TableKind, read_front};
 
 // The width in bits that a code of two bits names.
@@ -61,10 +61,8 @@ fn head_of(s: &[u8], front: TableFront) -> CsgpHead
 fn fixed_fields(s: &[u8]) -> Result<CsgpHead, Refusal>
     ensures { GivesFixed s.now result }
 {
-    match read_front(s, TableKind::Csgp) {
-        Ok(front) => Ok(head_of(s, front)),
-        Err(n) => Err(n),
-    }
+    let front = read_front(s, TableKind::Csgp)?;
+    Ok(head_of(s, front))
 }
 
 // The pair table, in one step: all of it is there, or the first pair that is not is cut in its length or in its count.
@@ -105,10 +103,7 @@ fn check_patterns(s: &[u8], head: CsgpHead) -> Result<(), Refusal>
 pub fn read_csgp(s: &[u8]) -> Result<CsgpHead, Refusal>
     ensures { GivesCsgp s.now result }
 {
-    let read = fixed_fields(s);
-    let Ok(head) = read else {
-        return read;
-    };
+    let head = fixed_fields(s)?;
     check_pairs(s, head)?;
     check_patterns(s, head)?;
     Ok(head)

@@ -6,9 +6,9 @@ ghost use Rattle.table_csgp_head.specs.Csgp.{index_width_of};
 ghost use Rattle.table_csgp_head.specs.Head.{Fixed};
 ghost use Rattle.table_csgp_head.specs.Indices.{can_be_large_by, GivesHighest, GivesLarge, IndicesThere, GivesIndices};
 
-use base_fields::refusal::Refusal;
-use super::{CsgpHead};
+use super::CsgpHead;
 use base_fields::read_u8;
+use base_fields::refusal::Refusal;
 
 // Whether an index can be too large: one of 32 bits without a mark.
 pub(crate) fn can_be_large(head: CsgpHead) -> bool

@@ -37,4 +37,3 @@ pub struct PatternsAt {
     pub pair: usize,
     pub indices: usize,
 }
-

@@ -1,4 +1,5 @@
 use mathlib.Core.Path.{ap, sym, ◌∙◌}
+use Rattle.base_fields.proofs.Handed.{handed}
 use Rattle.table_front.specs.Front.{front_fields}
 use Rattle.table_front.specs.Told.{told_front}
 use Rattle.table_front.specs.declared.TableKind.TheVariants.{Csgp}
@@ -8,10 +9,11 @@ use Rattle.table_csgp_head.proofs.head.fixed_fields.Goals as goal
 
 pub head_of-requires : goal.head_of-requires
 head_of-requires c =
-    front_of Csgp _ _ (ap told_front (sym c.in-Front.is) ∙ c.read_front.ensures)
+    front_of Csgp _ _ (ap told_front (sym c.in_ok-front.was) ∙ c.read_front.ensures)
 
-pub returns-in-Refused : goal.returns-in-Refused
+pub returns-in_err-front : goal.returns-in_err-front
 unfolding csgp
-returns-in-Refused c =
+returns-in_err-front c =
     let s = c.args.s.now in
-    front-refused Csgp s (front_fields Csgp s) (sym (ap told_front (sym c.in-Refused.is) ∙ c.read_front.ensures)) (read_all s)
+    rw (handed c.from_residual.ensures)
+    (front-refused Csgp s (front_fields Csgp s) (sym (ap told_front (sym c.in_err-front.was) ∙ c.read_front.ensures)) (read_all s))
