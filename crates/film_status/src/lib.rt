@@ -8,7 +8,6 @@ ghost use Rattle.film_status.specs.Status.{Returns, bit, one_number};
 
 use base_fields::refusal::Refusal;
 
-
 // The status of none and done.
 pub const NONE: u32 = 255;
 
@@ -16,16 +15,16 @@ pub const NONE: u32 = 255;
 pub fn bit_of(b: bool) -> u64
     ensures { result ≡ bit b }
 {
-    if b { 1 } else { 0 }
+    u64::from(b)
 }
 
-// Hands out how many records were written in front of a lent run.
-pub fn put_records(filled: Result<u32, Refusal>, out: &mut [u64; 1]) -> u32
-    ensures { Returns (told_value filled) one_number out.old out.new result }
+// Hands a number out.
+pub fn put_number(told: Result<u64, Refusal>, out: &mut [u64; 1]) -> u32
+    ensures { Returns (told_value told) one_number out.old out.new result }
 {
-    match filled {
+    match told {
         Ok(n) => {
-            out[0] = n as u64;
+            out[0] = n;
             0
         }
         Err(refusal) => refusal.number(),
