@@ -1,7 +1,4 @@
 -- The check of the length, and then the fields.
-use mathlib.Core.Path.{◌≡◌}
-use Rattle.std.specs.Prelude.{Err}
-use borrow.Author.Rules.{rules}
 use Rattle.group_entries.specs.Decoded.{decode_tele}
 use Rattle.group_entries.proofs.Front.{handed, checked, enough}
 use Rattle.group_entries.proofs.plain.decode_tele.Goals as goal
