@@ -7,6 +7,10 @@ use native.Mathlib.Omega.{arith}
 use borrow.Author.Tests.{lt-ltb, le-ltb, le-leb, ltb-false, ne_eqb}
 use lib.Dec.{ltb, leb}
 use lib.ListN.{length}
+use Rattle.std.specs.Prelude.{Result, Err}
+use Rattle.std.specs.Result.{IsErr, IsErrAnd}
+use Rattle.std.proofs.lemmas.Result.{err_from_is_err_and}
+use Rattle.base_fields.specs.declared.refusal.Refusal.{Refusal}
 use Rattle.base_fields.specs.Answer.{Answer, given, refused, choose, refuse_if, input_limit}
 use Rattle.base_fields.specs.Number.{be_at}
 use Rattle.base_fields.proofs.Answers.{Holds, holds-refuse_if, holds-given}
@@ -15,6 +19,10 @@ use Rattle.base_fields.specs.Span.{Span}
 use Rattle.group_sgpd.specs.Head.{head_of, head_at, lengths_by, HeadOf, Among, entry_count_at}
 use Rattle.group_sgpd.specs.declared.Lengths.{Lengths}
 use Rattle.group_sgpd.specs.declared.SgpdHead.{SgpdHead}
+
+-- what an exit by `?` hands on
+pub handed : {A : Type 0} {e : Refusal} {r : Result A Refusal} → IsErr r × IsErrAnd r (λ n. n ≡ e) → r ≡ Err e
+handed {r = r} h = let x = err_from_is_err_and r h.1 in x.1 ∙ ap Err x.2
 
 module _ (s : List ℕ) (short : length s ≤ input_limit) (long : 12 ≤ length s) where
   pub head_0 : version s ≡ 0 → head_at s ≡ entry_count_at s (version s) 0 0 8

@@ -6,11 +6,13 @@ use native.Mathlib.Numerals.{add-one}
 use native.Mathlib.Omega.{arith}
 use borrow.Author.Tests.{lt-ltb, le-ltb, ne_eqb}
 use lib.ListN.{length, get_or, set, take}
+use Rattle.std.specs.Prelude.{Result, Ok, Err}
 use lib.Seq.{take_all, take-suc, length-take-le}
 use Rattle.base_fields.specs.Answer.{given, refused, and_then, overwritten}
 use Rattle.base_fields.specs.Records.{numbers_of, GivesRecords}
-use Rattle.base_fields.specs.declared.FilledRun.{FilledRun}
-use Rattle.base_fields.specs.declared.FilledRun.TheVariants as filled
+use Rattle.base_fields.specs.Refusal.{number}
+use Rattle.base_fields.specs.declared.refusal.Refusal.{Refusal}
+use Rattle.base_fields.specs.declared.refusal.Refusal.TheVariants as refusal
 use Rattle.base_fields.specs.Span.{Span}
 use Rattle.base_fields.proofs.Answers.{given_inj, refused-given, refused-first}
 use Rattle.base_fields.proofs.Records.{in_run, numbers-length, put_next}
@@ -81,16 +83,16 @@ module _ {s : List ℕ} {h : SgpdHead} (r : ReadWhole s h) where
 
 -- what entry_places answers
 module _ (s before : List ℕ) where
-  abbrev Gives : List ℕ → FilledRun → Type 0
+  abbrev Gives : List ℕ → Result ℕ Refusal → Type 0
   Gives after r = GivesRecords (all_entries s before) place size before after r
 
-  pub refusal : (n : ℕ) → and_then (sgpd s) (λ es. given (head_of s)) ≡ refused n → Gives before (filled.Refused n)
-  refusal n e = rw (refused-first (sgpd s) (λ es. head_of s) e) (record { answer = refl; run = refl })
+  pub refusal-kept : (n : Refusal) → and_then (sgpd s) (λ es. given (head_of s)) ≡ refused (number n) → Gives before (Err n)
+  refusal-kept n e = rw (refused-first (sgpd s) (λ es. head_of s) e) (record { answer = refl; run = refl })
 
   module _ {h : SgpdHead} (r : ReadWhole s h) where
-    pub no_room : length before / 2 < h.entry_count → Gives before (filled.Refused 29)
+    pub no_room : length before / 2 < h.entry_count → Gives before (Err refusal.NoRecordLeft)
     no_room b = rw r.read (simp (entries-count r, lt-ltb _ _ b) (record { answer = refl; run = refl }))
 
     pub room : (after : List ℕ) → h.entry_count ≤ length before / 2 → after ≡ overwritten (numbers_of place size) (sgpd s) before →
-        Gives after (filled.Records h.entry_count)
+        Gives after (Ok h.entry_count)
     room after b w = rw r.read (simp (entries-count r, le-ltb _ _ b) (record { answer = simp (entries-count r); run = rw r.read at w }))

@@ -1,21 +1,18 @@
 -- What the readers of this crate hand on: the fixed fields, what tells an entry's length, and the place behind some entries.
-use Rattle.std.specs.Prelude.{ℕ, zero, suc, ◌+◌, ◌-◌, ◌≤◌, ◌≡◌, List, ltb, leb, eqb, length}
-use Rattle.base_fields.specs.Answer.{Answer, given, refused, choose, refuse_if, and_then, input_limit}
+use Rattle.std.specs.Prelude.{ℕ, zero, suc, ◌+◌, ◌-◌, ◌≤◌, ◌≡◌, List, Result, ltb, leb, eqb, length}
+use Rattle.base_fields.specs.Answer.{Answer, given, choose, refuse_if, and_then, input_limit}
 use Rattle.base_fields.specs.Number.{be_at}
 use Rattle.group_sgpd.specs.Sgpd.{version, grouping_type_of, default_length_of, default_index, entry_count_of, implicit_length, span_at, headed, sgpd, entry_at, entry_count_place}
-use Rattle.base_fields.specs.Span.{Span}
+use Rattle.base_fields.specs.Refusal.{told}
+use Rattle.base_fields.specs.Span.{Span, span_of}
+use Rattle.base_fields.specs.declared.Part.{Part}
+use Rattle.base_fields.specs.declared.refusal.Refusal.{Refusal}
 use Rattle.group_sgpd.specs.Told.{told_entry}
 use Rattle.group_sgpd.specs.declared.EntryCursor.{EntryCursor}
 use Rattle.group_sgpd.specs.declared.EntryStep.{EntryStep}
 use Rattle.group_sgpd.specs.declared.SgpdHead.{SgpdHead}
-use Rattle.group_sgpd.specs.declared.ReadHead.{ReadHead}
-use Rattle.group_sgpd.specs.declared.ReadHead.TheVariants as head
 use Rattle.group_sgpd.specs.declared.Lengths.{Lengths}
 use Rattle.group_sgpd.specs.declared.Lengths.TheVariants as lengths
-use Rattle.group_sgpd.specs.declared.Spanned.{Spanned}
-use Rattle.group_sgpd.specs.declared.Spanned.TheVariants as spanned
-use Rattle.group_sgpd.specs.declared.Moved.{Moved}
-use Rattle.group_sgpd.specs.declared.Moved.TheVariants as moved
 
 abbrev pub head_of : List ℕ → SgpdHead
 head_of s =
@@ -27,10 +24,6 @@ head_of s =
       entry_count = entry_count_of s;
       first = entry_count_place s + 4;
     }
-
-abbrev pub told_head : ReadHead → Answer SgpdHead
-told_head (head.Head h) = given h
-told_head (head.Refused n) = refused n
 
 -- the entry count at a place, behind the other fields: 32 where it is missing
 abbrev pub entry_count_at : List ℕ → ℕ → ℕ → ℕ → ℕ → Answer SgpdHead
@@ -56,9 +49,8 @@ lengths_by v t k =
 abbrev pub lengths_of : List ℕ → Lengths
 lengths_of s = lengths_by (version s) (grouping_type_of s) (default_length_of s)
 
-abbrev pub told_span : Spanned → Answer Span
-told_span (spanned.Entry place size) = given (record { place = place; size = size })
-told_span (spanned.Refused n) = refused n
+abbrev pub told_span : Result Part Refusal → Answer Span
+told_span = told span_of
 
 -- 35 where the entry is cut
 abbrev pub whole : List ℕ → ℕ → ℕ → Answer Span
@@ -68,10 +60,6 @@ whole s place size = refuse_if (ltb (length s) (place + size)) 35 (given (record
 unfoldable pub after : ℕ → List ℕ → ℕ → Answer ℕ
 after zero s p = given p
 after (suc n) s p = and_then (span_at s p) (λ e. after n s (e.place + e.size))
-
-abbrev pub told_move : Moved → Answer ℕ
-told_move (moved.At p) = given p
-told_move (moved.Refused n) = refused n
 
 -- the fixed fields: 55, 30, 31, 32 in order
 abbrev pub head_at : List ℕ → Answer SgpdHead

@@ -31,8 +31,8 @@ pub(crate) fn entry_onward(
             }
         }
         // does not come up: the payload was read whole
-        Err(n) => EntryStep {
-            found: Err(n),
+        Err(refusal) => EntryStep {
+            found: Err(refusal),
             cursor,
         },
     }

@@ -1,10 +1,11 @@
 // The fixed fields of an sgpd payload (document 01, part 6).
 ghost use Rattle.std.specs.Prelude.{◌≡◌, ◌≤◌, length};
-ghost use Rattle.group_sgpd.specs.Head.{head_at, told_head, entry_count_at};
+ghost use Rattle.base_fields.specs.Refusal.{told_value};
+ghost use Rattle.group_sgpd.specs.Head.{head_at, entry_count_at};
 
-use base_fields::refusal::Refusal;
-use super::{SgpdHead};
+use super::SgpdHead;
 use base_fields::INPUT_LIMIT;
+use base_fields::refusal::Refusal;
 
 // The entry count at a place, behind the fields that the version has.
 fn count_at(
@@ -15,7 +16,7 @@ fn count_at(
     at: usize,
 ) -> Result<SgpdHead, Refusal>
     requires { (12 ≤ length s.now) × (at ≤ 16) }
-    ensures { told_head result ≡ entry_count_at s.now version default_length default_sample_description_index at }
+    ensures { told_value result ≡ entry_count_at s.now version default_length default_sample_description_index at }
 {
     if s.len() < at + 4 {
         return Err(Refusal::NoEntryCount);
@@ -32,7 +33,7 @@ fn count_at(
 
 // The fixed fields.
 pub(crate) fn sgpd_head(s: &[u8]) -> Result<SgpdHead, Refusal>
-    ensures { told_head result ≡ head_at s.now }
+    ensures { told_value result ≡ head_at s.now }
 {
     let n = s.len();
     if INPUT_LIMIT < n {

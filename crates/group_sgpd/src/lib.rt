@@ -10,12 +10,13 @@ mod spans;
 
 ghost use Rattle.std.specs.Prelude.{◌≡◌};
 ghost use Rattle.base_fields.specs.Answer.{and_then, given};
+ghost use Rattle.base_fields.specs.Refusal.{told_value};
 ghost use Rattle.group_sgpd.specs.Sgpd.{parse_sgpd, sgpd};
 ghost use Rattle.group_sgpd.specs.Told.{told_sgpd};
-ghost use Rattle.group_sgpd.specs.Head.{head_of, told_head};
+ghost use Rattle.group_sgpd.specs.Head.{head_of};
 
-use base_fields::refusal::Refusal;
 use base_fields::Part;
+use base_fields::refusal::Refusal;
 use base_ids::DescriptionIndex;
 use head::sgpd_head;
 pub use lookup::{entry, entry_place};
@@ -71,27 +72,23 @@ enum Lengths {
 
 // The head, once the whole payload is read.
 pub fn read_sgpd(s: &[u8]) -> Result<SgpdHead, Refusal>
-    ensures { told_head result ≡ and_then (sgpd s.now) (λ es. given (head_of s.now)) }
+    ensures { told_value result ≡ and_then (sgpd s.now) (λ es. given (head_of s.now)) }
 {
     let head = sgpd_head(s)?;
-    match skip_all(s, head) {
-        Ok(_) => Ok(head),
-        Err(n) => Err(n),
-    }
+    skip_all(s, head)?;
+    Ok(head)
 }
 
 // Reads a whole sgpd payload.
 pub fn parse_sgpd(s: &[u8]) -> Result<SampleGroupDescription, Refusal>
     ensures { told_sgpd result ≡ parse_sgpd s.now }
 {
-    match read_sgpd(s) {
-        Ok(h) => Ok(SampleGroupDescription {
-            version: h.version,
-            grouping_type: h.grouping_type,
-            default_length: h.default_length,
-            default_sample_description_index: h.default_sample_description_index,
-            entry_count: h.entry_count,
-        }),
-        Err(n) => Err(n),
-    }
+    let head = read_sgpd(s)?;
+    Ok(SampleGroupDescription {
+        version: head.version,
+        grouping_type: head.grouping_type,
+        default_length: head.default_length,
+        default_sample_description_index: head.default_sample_description_index,
+        entry_count: head.entry_count,
+    })
 }

@@ -6,23 +6,25 @@ ghost use Rattle.base_fields.specs.Span.{GivesPart};
 ghost use Rattle.group_sgpd.specs.Told.{told_entry};
 ghost use Rattle.group_sgpd.specs.Head.{HeadOf, Among};
 
-use base_fields::refusal::Refusal;
-use base_fields::Part;
 use super::head::sgpd_head;
 use super::spans::{lengths_by, skip, skip_all, span_at};
 use super::{Lengths, SgpdHead};
-use base_fields::bytes_at;
+use base_fields::refusal::Refusal;
+use base_fields::{Part, bytes_at};
 use base_ids::DescriptionIndex;
 
-pub(crate) fn found_at(s: &[u8], lengths: Lengths, count: u32, at: usize) -> Result<Option<Part>, Refusal>
+pub(crate) fn found_at(
+    s: &[u8],
+    lengths: Lengths,
+    count: u32,
+    at: usize,
+) -> Result<Option<Part>, Refusal>
     requires among { Among s.now lengths count at }
     requires count_nonzero { 0 < count }
     ensures { told_entry result ≡ span_at s.now at }
 {
-    match span_at(s, lengths, count, at) {
-        Ok(Part { place, size }) => Ok(Some(Part { place, size })),
-        Err(n) => Err(n),
-    }
+    let part = span_at(s, lengths, count, at)?;
+    Ok(Some(part))
 }
 
 // An entry within the count: those before it, then it and those behind it, so that the bytes are read once.
@@ -35,10 +37,8 @@ fn entry_within(s: &[u8], head: SgpdHead, index: DescriptionIndex) -> Result<Opt
     let count = head.entry_count;
     let before = index.0 - 1;
     let at = skip(s, lengths, count, head.first, before)?;
-    match skip(s, lengths, count, at, count - before) {
-        Ok(_) => found_at(s, lengths, count, at),
-        Err(n) => Err(n),
-    }
+    skip(s, lengths, count, at, count - before)?;
+    found_at(s, lengths, count, at)
 }
 
 // A number that is none of the entries'.
@@ -47,10 +47,8 @@ fn no_entry(s: &[u8], head: SgpdHead, index: DescriptionIndex) -> Result<Option<
     requires entry_count_bound { 0 < index.0 → head.entry_count < index.0 }
     ensures { told_entry result ≡ and_then (spans (entry_count_of s.now) s.now (entry_count_place s.now + 4)) (λ es. pick es index.0) }
 {
-    match skip_all(s, head) {
-        Ok(_) => Ok(None),
-        Err(n) => Err(n),
-    }
+    skip_all(s, head)?;
+    Ok(None)
 }
 
 // The place and the length of an entry, once the whole payload is read.
@@ -73,7 +71,7 @@ pub fn entry(s: &[u8], index: DescriptionIndex) -> &[u8]
     ensures { GivesPart (entry_at s.now index.0) s.now s.entry.ref_ptr result.now result.ref_ptr }
 {
     match entry_place(s, index) {
-        Ok(Some(Part { place: at, size })) => bytes_at(s, at, size),
+        Ok(Some(part)) => bytes_at(s, part.place, part.size),
         Ok(None) => bytes_at(s, 0, 0),
         Err(_) => bytes_at(s, 0, 0),
     }

@@ -5,11 +5,11 @@ ghost use Rattle.group_sgpd.specs.Told.{told_entry};
 ghost use Rattle.group_sgpd.specs.Head.{ReadWhole};
 ghost use Rattle.group_sgpd.specs.Marks.{marks_apart, Marks};
 
-use base_fields::refusal::Refusal;
-use base_fields::Part;
 use super::cursor::entry_onward;
 use super::spans::{lengths_by, skip};
 use super::{EntryCursor, SgpdHead};
+use base_fields::Part;
+use base_fields::refusal::Refusal;
 use base_ids::DescriptionIndex;
 
 // How many landmarks there are.

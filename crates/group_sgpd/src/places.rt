@@ -5,10 +5,9 @@ ghost use Rattle.base_fields.specs.Records.{numbers_of, GivesRecords};
 ghost use Rattle.group_sgpd.specs.Sgpd.{sgpd, all_entries};
 ghost use Rattle.group_sgpd.specs.Head.{ReadWhole};
 
-use base_fields::refusal::Refusal;
-use base_fields::Part;
 use super::spans::{lengths_by, span_at};
 use super::{SgpdHead, read_sgpd};
+use base_fields::refusal::Refusal;
 
 // Writes place and length of each entry in front of the run.
 fn put_places(s: &[u8], head: SgpdHead, run: &mut [u32])
@@ -22,11 +21,11 @@ fn put_places(s: &[u8], head: SgpdHead, run: &mut [u32])
     let mut k: u32 = 0;
     while k < count {
         match span_at(s, lengths, count, at) {
-            Ok(Part { place, size }) => {
+            Ok(part) => {
                 let i = 2 * (k as usize);
-                run[i] = place as u32;
-                run[i + 1] = size as u32;
-                at = place + size;
+                run[i] = part.place as u32;
+                run[i + 1] = part.size as u32;
+                at = part.place + part.size;
                 k = k + 1;
             }
             Err(_) => return,

@@ -1,12 +1,13 @@
 // The lengths of entries, and the place behind some of them (document 01, part 6).
 ghost use Rattle.std.specs.Prelude.{◌≡◌, ◌+◌, ◌≤◌, ◌<◌, length};
+ghost use Rattle.base_fields.specs.Refusal.{told_value};
 ghost use Rattle.group_sgpd.specs.Sgpd.{implicit_length, entry_count_of, span_at, entry_count_place};
-ghost use Rattle.group_sgpd.specs.Head.{lengths_by, told_span, whole, after, told_move, HeadOf, Among};
+ghost use Rattle.group_sgpd.specs.Head.{lengths_by, told_span, whole, after, HeadOf, Among};
 ghost use Rattle.group_sgpd.specs.declared.Lengths.TheVariants.{Prefixed, Shared};
 
-use base_fields::refusal::Refusal;
-use base_fields::Part;
 use super::{Lengths, SgpdHead};
+use base_fields::Part;
+use base_fields::refusal::Refusal;
 
 // The length that version 0 gives the entries of a type; 0 where it gives none.
 fn implicit_length(grouping_type: u32) -> u32
@@ -78,7 +79,7 @@ pub(crate) fn span_at(s: &[u8], lengths: Lengths, count: u32, at: usize) -> Resu
 // The place behind n entries, each with its length before it. Bytes are counted in 32 bits, which a controller handles at once.
 fn skip_prefixed(s: &[u8], at: usize, n: u32) -> Result<usize, Refusal>
     requires { Among s.now Prefixed (entry_count_of s.now) at }
-    ensures { told_move result ≡ after n s.now at }
+    ensures { told_value result ≡ after n s.now at }
 {
     let mut bytes = (s.len() - at) as u32;
     let mut left = n;
@@ -101,7 +102,7 @@ fn skip_prefixed(s: &[u8], at: usize, n: u32) -> Result<usize, Refusal>
 fn skip_shared(s: &[u8], count: u32, at: usize, n: u32) -> Result<usize, Refusal>
     requires among { Among s.now Shared count at }
     requires n_le_count { n ≤ count }
-    ensures { told_move result ≡ after n s.now at }
+    ensures { told_value result ≡ after n s.now at }
 {
     let mut bytes = (s.len() - at) as u32;
     let mut left = n;
@@ -119,10 +120,16 @@ fn skip_shared(s: &[u8], count: u32, at: usize, n: u32) -> Result<usize, Refusal
 }
 
 // The place behind n entries; a product where they have one length.
-pub(crate) fn skip(s: &[u8], lengths: Lengths, count: u32, at: usize, n: u32) -> Result<usize, Refusal>
+pub(crate) fn skip(
+    s: &[u8],
+    lengths: Lengths,
+    count: u32,
+    at: usize,
+    n: u32,
+) -> Result<usize, Refusal>
     requires among { Among s.now lengths count at }
     requires n_le_count { n ≤ count }
-    ensures { told_move result ≡ after n s.now at }
+    ensures { told_value result ≡ after n s.now at }
 {
     match lengths {
         Lengths::Fixed(k) => {
@@ -140,7 +147,7 @@ pub(crate) fn skip(s: &[u8], lengths: Lengths, count: u32, at: usize, n: u32) ->
 // The place behind all entries.
 pub(crate) fn skip_all(s: &[u8], head: SgpdHead) -> Result<usize, Refusal>
     requires { HeadOf s.now head }
-    ensures { told_move result ≡ after (entry_count_of s.now) s.now (entry_count_place s.now + 4) }
+    ensures { told_value result ≡ after (entry_count_of s.now) s.now (entry_count_place s.now + 4) }
 {
     let lengths = lengths_by(head.version, head.grouping_type, head.default_length);
     skip(s, lengths, head.entry_count, head.first, head.entry_count)

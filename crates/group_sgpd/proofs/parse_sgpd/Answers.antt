@@ -1,8 +1,9 @@
 use Rattle.base_fields.proofs.Answers.{and_then_assoc}
 use Rattle.group_sgpd.specs.declared.SgpdHead.{SgpdHead}
 use Rattle.group_sgpd.specs.Sgpd.{Description, sgpd}
-use Rattle.group_sgpd.specs.Head.{told_head}
 use Rattle.base_fields.specs.Answer.{Answer, given, and_then}
+use Rattle.base_fields.specs.Refusal.{told_value}
+use Rattle.group_sgpd.proofs.Heads.{handed}
 use mathlib.Core.Path.{ap, sym, ◌∙◌}
 use Rattle.group_sgpd.proofs.parse_sgpd.Goals as goal
 
@@ -19,8 +20,8 @@ described a =
       count = h.entry_count;
     }))
 
-pub returns-in-Head : goal.returns-in-Head
-returns-in-Head c = ap described (ap told_head (sym c.in-Head.is) ∙ c.read_sgpd.ensures) ∙ and_then_assoc (sgpd c.args.s.now) _ _
+pub returns : goal.returns
+returns c = ap described (ap told_value (sym c.in_ok-head.was) ∙ c.read_sgpd.ensures) ∙ and_then_assoc (sgpd c.args.s.now) _ _
 
-pub returns-in-Refused : goal.returns-in-Refused
-returns-in-Refused c = ap described (ap told_head (sym c.in-Refused.is) ∙ c.read_sgpd.ensures) ∙ and_then_assoc (sgpd c.args.s.now) _ _
+pub returns-in_err-head : goal.returns-in_err-head
+returns-in_err-head c = rw (handed c.from_residual.ensures) (ap described (ap told_value (sym c.in_err-head.was) ∙ c.read_sgpd.ensures) ∙ and_then_assoc (sgpd c.args.s.now) _ _)

@@ -2,18 +2,19 @@
 use Rattle.group_sgpd.proofs.Heads.{count-is, among}
 use Rattle.group_sgpd.proofs.Onward.{onward, entry-reached, first-inside, entry-unrefused}
 use Rattle.group_sgpd.specs.Sgpd.{entry_count_place}
-use Rattle.group_sgpd.specs.Head.{after, told_move}
+use Rattle.group_sgpd.specs.Head.{after}
 use Rattle.base_fields.specs.Answer.{given}
+use Rattle.base_fields.specs.Refusal.{told_value}
 use Prim.Native.Nat.{◌+◌, ◌-◌}
 use native.Mathlib.Omega.{arith}
 use mathlib.Core.Path.{◌≡◌, refl, ap, sym, ◌∙◌}
 use Rattle.group_sgpd.proofs.cursor.entry_onward.Goals as goal
-use Rattle.group_sgpd.proofs.cursor.entry_onward.Goals.{In-At}
+use Rattle.group_sgpd.proofs.cursor.entry_onward.Goals.{In-Ok}
 
 -- the place behind the entries before it
-reached : (c : In-At) → let a = c.args in after (a.index.0 - 1) a.s.now (entry_count_place a.s.now + 4) ≡ given c.in-At.at
+reached : (c : In-Ok) → let a = c.args in after (a.index.0 - 1) a.s.now (entry_count_place a.s.now + 4) ≡ given c.in-Ok.at
 reached c =
-    onward c.args.s.now c.requires.on_entry c.args.index.0 c.requires.index_le_index.0 ∙ sym (ap told_move (sym c.in-At.is) ∙ c.skip.ensures)
+    onward c.args.s.now c.requires.on_entry c.args.index.0 c.requires.index_le_index.0 ∙ sym (ap told_value (sym c.in-Ok.is) ∙ c.skip.ensures)
 
 pub skip-requires : goal.skip-requires
 skip-requires c =
@@ -29,18 +30,18 @@ found_at-found-requires c =
       count_nonzero = omega arith;
     }
 
-pub returns-in-At : goal.returns-in-At
-returns-in-At c =
+pub returns-in-Ok : goal.returns-in-Ok
+returns-in-Ok c =
     let i = c.args.index.0 in
     record {
-      found = c.found_at-found.ensures ∙ sym (entry-reached c.requires.read_whole i (omega arith) (omega (arith, count-is c.requires.read_whole.head)) (reached (goal.at.returns-in-At c).In-At));
+      found = c.found_at-found.ensures ∙ sym (entry-reached c.requires.read_whole i (omega arith) (omega (arith, count-is c.requires.read_whole.head)) (reached (goal.at.returns-in-Ok c).In-Ok));
       index = refl;
-      cursor = record { number = omega arith; place = reached (goal.at.returns-in-At c).In-At };
+      cursor = record { number = omega arith; place = reached (goal.at.returns-in-Ok c).In-Ok };
     }
 
-pub returns-in-Refused : goal.returns-in-Refused
-returns-in-Refused c =
+pub returns-in-Err : goal.returns-in-Err
+returns-in-Err c =
     let i = c.args.index.0 in
     absurd
     (entry-unrefused c.requires.read_whole i (omega arith) (omega (arith, count-is c.requires.read_whole.head))
-    (onward c.args.s.now c.requires.on_entry i c.requires.index_le_index.0 ∙ sym (ap told_move (sym c.in-Refused.is) ∙ c.skip.ensures)))
+    (onward c.args.s.now c.requires.on_entry i c.requires.index_le_index.0 ∙ sym (ap told_value (sym c.in-Err.is) ∙ c.skip.ensures)))

@@ -3,11 +3,13 @@ use mathlib.Core.List.{List}
 use Prim.Native.Nat.{ℕ, ◌+◌, ◌*◌, ◌<◌}
 use native.Mathlib.Nat.{mul-le-mul_right, zero-mul, add-mul, one-mul}
 use native.Mathlib.Omega.{arith}
+use Rattle.std.specs.Prelude.{Result}
 use lib.ListN.{set, length-set}
 use Rattle.group_sgpd.specs.Sgpd.{entry_count_of, entry_count_place}
-use Rattle.group_sgpd.specs.Head.{after, told_move}
+use Rattle.group_sgpd.specs.Head.{after}
 use Rattle.group_sgpd.specs.Marks.{marks_apart}
-use Rattle.group_sgpd.specs.declared.Moved.{Moved}
+use Rattle.base_fields.specs.Refusal.{told_value}
+use Rattle.base_fields.specs.declared.refusal.Refusal.{Refusal}
 use Rattle.group_sgpd.proofs.Heads.{count-is, first-is, among}
 use Rattle.group_sgpd.proofs.Onward.{first-inside}
 use Rattle.group_sgpd.proofs.Marked.{enough, MarksBelow, marks-more, next-mark, mark-unrefused, marks-all}
@@ -39,8 +41,8 @@ module _ (c : At-loop-k) where
   step = rw (add-mul, one-mul) refl
 
   -- the place behind the entries up to the next landmark
-  onward : {r : Moved} {q : Moved} → told_move r ≡ after n bytes c.loop-k.at → r ≡ q → after ((c.loop-k.k + 1) * n) bytes (entry_count_place bytes + 4) ≡ told_move q
-  onward e f = next-mark bytes n c.loop-k.k c.loop-k.invariant.2 ∙ sym e ∙ ap told_move f
+  onward : {r q : Result ℕ Refusal} → told_value r ≡ after n bytes c.loop-k.at → r ≡ q → after ((c.loop-k.k + 1) * n) bytes (entry_count_place bytes + 4) ≡ told_value q
+  onward e f = next-mark bytes n c.loop-k.k c.loop-k.invariant.2 ∙ sym e ∙ ap told_value f
 
 pub loop-k-init : goal.loop-k-init
 unfolding after
@@ -65,15 +67,15 @@ pub loop-k-preserved : goal.loop-k-preserved
 loop-k-preserved c = (
   simp length-set c.loop-k.invariant.0,
   omega (arith, step (goal.at.loop-k-preserved c).At-loop-k, c.loop-k.invariant.1),
-  onward (goal.at.loop-k-preserved c).At-loop-k c.skip.ensures c.in-At.is,
+  onward (goal.at.loop-k-preserved c).At-loop-k c.skip.ensures c.in-Ok.is,
   more (goal.at.loop-k-preserved c).At-loop-k c.loop-k-test.true,
 )
 
-pub returns-in-Refused : goal.returns-in-Refused
-returns-in-Refused c =
+pub returns-in-Err : goal.returns-in-Err
+returns-in-Err c =
     absurd
-    (mark-unrefused c.requires ((c.loop-k.k + 1) * n (goal.at.returns-in-Refused c).At-loop-k) (omega (arith, counted (goal.at.returns-in-Refused c).At-loop-k, step (goal.at.returns-in-Refused c).At-loop-k, c.loop-k.invariant.1))
-    (onward (goal.at.returns-in-Refused c).At-loop-k c.skip.ensures c.in-Refused.is))
+    (mark-unrefused c.requires ((c.loop-k.k + 1) * n (goal.at.returns-in-Err c).At-loop-k) (omega (arith, counted (goal.at.returns-in-Err c).At-loop-k, step (goal.at.returns-in-Err c).At-loop-k, c.loop-k.invariant.1))
+    (onward (goal.at.returns-in-Err c).At-loop-k c.skip.ensures c.in-Err.is))
 
 pub returns : goal.returns
 returns c =

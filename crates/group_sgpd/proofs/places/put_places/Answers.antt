@@ -4,7 +4,7 @@ use native.Mathlib.Omega.{arith}
 use lib.ListN.{length-set}
 use borrow.Author.Rules.{rules}
 use Rattle.base_fields.specs.Answer.{given, input_limit}
-use Rattle.base_fields.specs.Span.{Span}
+use Rattle.base_fields.specs.Span.{Span, span_of}
 use Rattle.group_sgpd.specs.Sgpd.{span_at}
 use Rattle.group_sgpd.specs.Head.{after, told_span}
 use Rattle.group_sgpd.proofs.Entries.{span_at-inside}
@@ -12,15 +12,15 @@ use Rattle.group_sgpd.proofs.Heads.{first-is, among}
 use Rattle.group_sgpd.proofs.Onward.{first-inside}
 use Rattle.group_sgpd.proofs.Placed.{placed_first, placed-all, entry_kept, after_next, placed-next}
 use Rattle.group_sgpd.proofs.places.put_places.Goals as goal
-use Rattle.group_sgpd.proofs.places.put_places.Goals.{In-Entry}
+use Rattle.group_sgpd.proofs.places.put_places.Goals.{In-Ok}
 
 -- a turn of the loop, and the entry that was read at its place
-module _ (c : In-Entry) where
+module _ (c : In-Ok) where
   abbrev read : Span
-  read = record { place = c.in-Entry.place; size = c.in-Entry.size }
+  read = span_of c.in-Ok.part
 
   entered : span_at c.args.s.now c.loop-k.at ≡ given read
-  entered = sym (ap told_span (sym c.in-Entry.is) ∙ c.span_at.ensures)
+  entered = sym (ap told_span (sym c.in-Ok.is) ∙ c.span_at.ensures)
 
   inside : read.place + read.size ≤ input_limit
   inside = omega (arith, span_at-inside _ _ entered, c.requires.read_whole.head.short)
@@ -37,16 +37,16 @@ span_at-requires c =
     record { among = among r c.lengths_by-lengths.ensures (first-inside r _ c.loop-k.invariant.1); count_nonzero = omega arith }
 
 pub overflow_cast-run : goal.overflow_cast-run
-overflow_cast-run c = omega (arith, inside c)
+overflow_cast-run c = omega (arith, inside (goal.at.overflow_cast-run c).In-Ok)
 
-pub overflow_cast-run-in-Entry : goal.overflow_cast-run-in-Entry
-overflow_cast-run-in-Entry c = omega (arith, inside (goal.at.overflow_cast-run-in-Entry c).In-Entry)
+pub overflow_cast-run-in-Ok : goal.overflow_cast-run-in-Ok
+overflow_cast-run-in-Ok c = omega (arith, inside (goal.at.overflow_cast-run-in-Ok c).In-Ok)
 
-pub bounds-run-i-in-Entry : goal.bounds-run-i-in-Entry
-bounds-run-i-in-Entry c = simp length-set (omega arith)
+pub bounds-run-i-in-Ok : goal.bounds-run-i-in-Ok
+bounds-run-i-in-Ok c = simp length-set (omega arith)
 
 pub overflow_add-at : goal.overflow_add-at
-overflow_add-at c = omega (arith, inside (goal.at.overflow_add-at c).In-Entry)
+overflow_add-at c = omega (arith, inside (goal.at.overflow_add-at c).In-Ok)
 
 pub loop-k-preserved : goal.loop-k-preserved
 loop-k-preserved c =
@@ -54,16 +54,16 @@ loop-k-preserved c =
     let k = c.loop-k.k in
     let i = c.loop-k.invariant in
     let l : k < c.args.head.entry_count = omega arith in
-    (search rules, after_next r k l i.1 (entered (goal.at.loop-k-preserved c).In-Entry), simp length-set i.2, rw i.3 (placed-next r k l i.1 (entered (goal.at.loop-k-preserved c).In-Entry) _ c.requires.entry_count_in_bounds))
+    (search rules, after_next r k l i.1 (entered (goal.at.loop-k-preserved c).In-Ok), simp length-set i.2, rw i.3 (placed-next r k l i.1 (entered (goal.at.loop-k-preserved c).In-Ok) _ c.requires.entry_count_in_bounds))
 
-pub shape_of-run-in-Refused : goal.shape_of-run-in-Refused
-shape_of-run-in-Refused c = c.loop-k.invariant.2
+pub shape_of-run-in-Err : goal.shape_of-run-in-Err
+shape_of-run-in-Err c = c.loop-k.invariant.2
 
-pub returns-in-Refused : goal.returns-in-Refused
-returns-in-Refused c =
+pub returns-in-Err : goal.returns-in-Err
+returns-in-Err c =
     absurd
     (entry_kept c.requires.read_whole c.loop-k.k (omega arith) c.loop-k.invariant.1
-    (sym (ap told_span (sym c.in-Refused.is) ∙ c.span_at.ensures)))
+    (sym (ap told_span (sym c.in-Err.is) ∙ c.span_at.ensures)))
 
 pub shape_of-run : goal.shape_of-run
 shape_of-run c = c.loop-k.invariant.2
