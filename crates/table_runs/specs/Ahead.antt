@@ -1,7 +1,9 @@
 -- The patterns ahead of a place in a table's payload.
-use Rattle.std.specs.Prelude.{◌≡◌, false, ℕ, ◌+◌, ◌*◌, ◌≤◌, ◌<◌, List, [], ◌∷◌, map, length}
+use Rattle.std.specs.Prelude.{◌≡◌, false, ℕ, ◌+◌, ◌*◌, ◌≤◌, ◌<◌, List, [], ◌∷◌, map, length, Result, Ok, Err, Option, Some, None}
 use Rattle.base_fields.specs.Answer.{given, refused, input_limit}
 use Rattle.base_fields.specs.Number.{be_at}
+use Rattle.base_fields.specs.Refusal.{number}
+use Rattle.base_fields.specs.declared.refusal.Refusal.{Refusal}
 use Rattle.table_front.specs.declared.TableKind.{TableKind}
 use Rattle.table_front.specs.declared.TableKind.TheVariants.{Sbgp, Csgp}
 use Rattle.table_rows.specs.Pattern.{Pattern, single}
@@ -14,10 +16,6 @@ use Rattle.table_csgp_head.specs.declared.PatternsAt.{PatternsAt}
 use Rattle.table_runs.specs.Patterns.{patterns_of}
 use Rattle.table_runs.specs.declared.SampleTable.{SampleTable}
 use Rattle.table_runs.specs.declared.SampleTable.TheVariants as table
-use Rattle.table_runs.specs.declared.ReadTable.{ReadTable}
-use Rattle.table_runs.specs.declared.ReadTable.TheVariants as read
-use Rattle.table_runs.specs.declared.NextPattern.{NextPattern}
-use Rattle.table_runs.specs.declared.NextPattern.TheVariants as next
 
 -- the row at byte place p, as a pattern of one index
 abbrev pub row_place : List ℕ → ℕ → PatternAt
@@ -56,9 +54,9 @@ pub record Held (of : TableKind) (s : List ℕ) (t : SampleTable) : Type 0 where
   pub whole : WholeIn s t (all_in t)
   pub laid : LaidIn s t
 
-abbrev pub GivesHeld : TableKind → List ℕ → ReadTable → Type 0
-GivesHeld kind s (read.Table t) = Held kind s t
-GivesHeld kind s (read.Refused n) = patterns_of kind s ≡ refused n
+abbrev pub GivesHeld : TableKind → List ℕ → Result SampleTable Refusal → Type 0
+GivesHeld kind s (Ok t) = Held kind s t
+GivesHeld kind s (Err e) = patterns_of kind s ≡ refused (number e)
 
 -- a step: the first pattern ahead, and the place behind it
 pub record Step (s : List ℕ) (t : SampleTable) (here : PatternsAt) (p : PatternAt) (behind : PatternsAt) : Type 0 where
@@ -67,6 +65,6 @@ pub record Step (s : List ℕ) (t : SampleTable) (here : PatternsAt) (p : Patter
   pub whole : WholeIn s t behind
   pub fewer : behind.left < here.left
 
-abbrev pub GivesPattern : List ℕ → SampleTable → PatternsAt → NextPattern → Type 0
-GivesPattern s t here (next.Pattern p behind) = Step s t here p behind
-GivesPattern s t here next.End = ahead_in s t here ≡ []
+abbrev pub GivesPattern : List ℕ → SampleTable → PatternsAt → Option (PatternAt × PatternsAt) → Type 0
+GivesPattern s t here (Some (p, behind)) = Step s t here p behind
+GivesPattern s t here None = ahead_in s t here ≡ []

@@ -1,11 +1,10 @@
 -- The samples ahead of a place in a table's payload.
-use Rattle.std.specs.Prelude.{◌≡◌, ℕ, ◌-◌, ◌<◌, List, [], ◌∷◌, ◌++◌, length, replicate}
+use Rattle.std.specs.Prelude.{◌≡◌, ℕ, ◌-◌, ◌<◌, List, [], ◌∷◌, ◌++◌, length, replicate, Option, Some, None}
+use Rattle.base_ids.specs.declared.DescriptionIndex.{DescriptionIndex}
 use Rattle.table_rows.specs.Pattern.{Pattern, samples_from, samples_of}
 use Rattle.table_runs.specs.Ahead.{all_in, ahead_in, WholeIn}
 use Rattle.table_runs.specs.declared.SampleTable.{SampleTable}
 use Rattle.table_runs.specs.declared.RunCursor.{RunCursor}
-use Rattle.table_runs.specs.declared.NextRun.{NextRun}
-use Rattle.table_runs.specs.declared.NextRun.TheVariants as next
 
 -- the samples of patterns, where k of the first one's are passed
 abbrev pub samples_behind : List Pattern → ℕ → List ℕ
@@ -25,6 +24,6 @@ pub record Runs (s : List ℕ) (t : SampleTable) (c : RunCursor) (n i : ℕ) (d 
   pub whole : WholeIn s t d.here
   pub fewer : length (samples_ahead s t d) < length (samples_ahead s t c)
 
-abbrev pub GivesNext : List ℕ → SampleTable → RunCursor → NextRun → Type 0
-GivesNext s t c (next.Run n i d) = Runs s t c n i.0 d
-GivesNext s t c next.End = samples_ahead s t c ≡ []
+abbrev pub GivesNext : List ℕ → SampleTable → RunCursor → Option (ℕ × DescriptionIndex × RunCursor) → Type 0
+GivesNext s t c (Some (n, i, d)) = Runs s t c n i.0 d
+GivesNext s t c None = samples_ahead s t c ≡ []

@@ -5,7 +5,7 @@ ghost use Rattle.base_fields.specs.Answer.{input_limit};
 ghost use Rattle.table_runs.specs.Ahead.{all_in, ahead_in, row_place, WholeIn, GivesPattern};
 ghost use Rattle.table_runs.specs.Patterns.{covered_limit};
 
-use super::{SampleTable};
+use super::SampleTable;
 use base_fields::read_u32;
 use table_csgp_head::{PatternsAt, pattern_at, patterns_behind};
 use table_patterns::PatternAt;
@@ -39,7 +39,11 @@ fn row_at(s: &[u8], at: usize) -> PatternAt
 }
 
 // The first of the patterns ahead.
-pub fn next_pattern(s: &[u8], table: SampleTable, here: PatternsAt) -> Option<(PatternAt, PatternsAt)>
+pub fn next_pattern(
+    s: &[u8],
+    table: SampleTable,
+    here: PatternsAt,
+) -> Option<(PatternAt, PatternsAt)>
     requires { WholeIn s.now table here }
     ensures { GivesPattern s.now table here result }
 {
@@ -50,11 +54,12 @@ pub fn next_pattern(s: &[u8], table: SampleTable, here: PatternsAt) -> Option<(P
     match table {
         SampleTable::Rows(_) => {
             let at = here.pair;
-            Some((row_at(s, at), PatternsAt {
-                    left: left - 1,
-                    pair: at + 8,
-                    indices: here.indices,
-                }))
+            let behind = PatternsAt {
+                left: left - 1,
+                pair: at + 8,
+                indices: here.indices,
+            };
+            Some((row_at(s, at), behind))
         }
         SampleTable::Patterns(head) => {
             let pattern = pattern_at(s, head, here);

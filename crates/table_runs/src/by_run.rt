@@ -4,7 +4,7 @@ ghost use Rattle.table_runs.specs.Ahead.{WholeIn};
 ghost use Rattle.table_runs.specs.Runs.{first_run, GivesNext};
 
 use super::{RunCursor, SampleTable, first_pattern, next_pattern};
-use base_ids::DescriptionIndex;
+use base_ids::{DescriptionIndex, PatternCount};
 use table_patterns::run::run_at;
 
 // All samples of a table.
@@ -18,7 +18,11 @@ pub fn first_run(table: SampleTable) -> RunCursor
 }
 
 // The next samples of one index.
-pub fn next_run(s: &[u8], table: SampleTable, cursor: RunCursor) -> Option<(PatternCount, DescriptionIndex, RunCursor)>
+pub fn next_run(
+    s: &[u8],
+    table: SampleTable,
+    cursor: RunCursor,
+) -> Option<(PatternCount, DescriptionIndex, RunCursor)>
     requires { WholeIn s.now table cursor.here }
     ensures { GivesNext s.now table cursor result }
 {
@@ -29,10 +33,11 @@ pub fn next_run(s: &[u8], table: SampleTable, cursor: RunCursor) -> Option<(Patt
             Some((pattern, behind)) => {
                 if k < pattern.count {
                     let run = run_at(s, pattern, k);
-                    return Some((run.count, DescriptionIndex(run.index), RunCursor {
-                            here,
-                            sample: k + run.count,
-                        }));
+                    let behind = RunCursor {
+                        here,
+                        sample: k + run.count,
+                    };
+                    return Some((run.count, DescriptionIndex(run.index), behind));
                 }
                 here = behind;
                 k = 0;

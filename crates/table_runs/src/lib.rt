@@ -10,10 +10,9 @@ ghost use Rattle.table_runs.specs.Ahead.{GivesHeld};
 pub use self::by_pattern::{count_samples, first_pattern, next_pattern};
 pub use self::by_run::{first_run, next_run};
 use base_fields::refusal::Refusal;
-use base_ids::{DescriptionIndex, PatternCount};
+use base_ids::PatternCount;
 use table_csgp_head::{CsgpHead, PatternsAt, read_csgp};
 use table_front::TableKind;
-use table_patterns::PatternAt;
 use table_sbgp::{SbgpHead, read_sbgp};
 
 #[derive(Clone, Copy)]
@@ -34,13 +33,13 @@ pub fn read_table(s: &[u8], kind: TableKind) -> Result<SampleTable, Refusal>
     ensures { GivesHeld kind s.now result }
 {
     match kind {
-        TableKind::Sbgp => match read_sbgp(s) {
-            Ok(head) => Ok(SampleTable::Rows(head)),
-            Err(n) => Err(n),
-        },
-        TableKind::Csgp => match read_csgp(s) {
-            Ok(head) => Ok(SampleTable::Patterns(head)),
-            Err(n) => Err(n),
-        },
+        TableKind::Sbgp => {
+            let head = read_sbgp(s)?;
+            Ok(SampleTable::Rows(head))
+        }
+        TableKind::Csgp => {
+            let head = read_csgp(s)?;
+            Ok(SampleTable::Patterns(head))
+        }
     }
 }

@@ -10,24 +10,24 @@ next_pattern-requires c = c.loop-pattern.invariant.0
 
 pub overflow_add-sum : goal.overflow_add-sum
 overflow_add-sum c =
-    let step = rw c.in-Pattern.is at c.next_pattern.ensures in
+    let step = rw c.in-Some.is at c.next_pattern.ensures in
     omega (arith, c.loop-pattern.invariant.2, c.loop-pattern.invariant.3, step.fewer)
 
 pub loop-pattern-smaller : goal.loop-pattern-smaller
 loop-pattern-smaller c =
-    let step = rw c.in-Pattern.is at c.next_pattern.ensures in
+    let step = rw c.in-Some.is at c.next_pattern.ensures in
     step.fewer
 
 pub loop-pattern-preserved : goal.loop-pattern-preserved
 unfolding covered_by
 loop-pattern-preserved c =
-    let step = rw c.in-Pattern.is at c.next_pattern.ensures in
+    let step = rw c.in-Some.is at c.next_pattern.ensures in
     let all = rw step.first at c.loop-pattern.invariant.1 in
     (step.whole, omega (arith, all), omega (arith, c.loop-pattern.invariant.2, step.fewer), c.loop-pattern.invariant.3)
 
-pub returns-in-End : goal.returns-in-End
+pub returns-in-None : goal.returns-in-None
 unfolding covered_by
-returns-in-End c =
-    let none = rw c.in-End.is at c.next_pattern.ensures in
+returns-in-None c =
+    let none = rw c.in-None.is at c.next_pattern.ensures in
     let all = rw none at c.loop-pattern.invariant.1 in
     (omega (arith, all), omega (arith, c.loop-pattern.invariant.2, c.loop-pattern.invariant.3))

@@ -28,9 +28,9 @@ row_at-requires c =
     let w = rows c in
     (omega (arith, w.0, c.if-left-eq0.false), w.1)
 
-pub overflow_add-result : goal.overflow_add-result
-overflow_add-result c =
-    let w = rows (goal.at.overflow_add-result c).In-Rows in
+pub overflow_add-behind : goal.overflow_add-behind
+overflow_add-behind c =
+    let w = rows (goal.at.overflow_add-behind c).In-Rows in
     omega (arith, w.0, w.1)
 
 pub pattern_at-pattern-requires : goal.pattern_at-pattern-requires

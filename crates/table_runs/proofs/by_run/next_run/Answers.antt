@@ -13,17 +13,17 @@ pub run_at-run-requires : goal.run_at-run-requires
 run_at-run-requires c =
     let here = c.loop-pattern.here in
     let k = c.loop-pattern.k in
-    let step = rw c.in-Pattern.is at c.next_pattern.ensures in
+    let step = rw c.in-Some.is at c.next_pattern.ensures in
     (step.stands, c.if-k-pattern.true)
 
-pub overflow_add-result : goal.overflow_add-result
-overflow_add-result c = omega (arith, c.run_at-run.ensures.within)
+pub overflow_add-behind : goal.overflow_add-behind
+overflow_add-behind c = omega (arith, c.run_at-run.ensures.within)
 
 pub returns-then-k-pattern : goal.returns-then-k-pattern
 returns-then-k-pattern c =
     let here = c.loop-pattern.here in
     let k = c.loop-pattern.k in
-    let step = rw c.in-Pattern.is at c.next_pattern.ensures in
+    let step = rw c.in-Some.is at c.next_pattern.ensures in
     let r = run_on c.args.s.now c.args.table here _ _ step k c.loop-pattern.invariant.0 c.run_at-run.result c.run_at-run.ensures in
     runs-from c.args.s.now c.args.table c.args.cursor _ c.loop-pattern.invariant.1 r
 
@@ -31,17 +31,17 @@ pub loop-pattern-smaller : goal.loop-pattern-smaller
 loop-pattern-smaller c =
     let here = c.loop-pattern.here in
     let k = c.loop-pattern.k in
-    let step = rw c.in-Pattern.is at c.next_pattern.ensures in
+    let step = rw c.in-Some.is at c.next_pattern.ensures in
     step.fewer
 
 pub loop-pattern-preserved : goal.loop-pattern-preserved
 loop-pattern-preserved c =
     let here = c.loop-pattern.here in
     let k = c.loop-pattern.k in
-    let step = rw c.in-Pattern.is at c.next_pattern.ensures in
+    let step = rw c.in-Some.is at c.next_pattern.ensures in
     (step.whole, c.loop-pattern.invariant.1 ∙ passed_over c.args.s.now c.args.table here _ _ step k c.if-k-pattern.false)
 
-pub returns-in-End : goal.returns-in-End
-returns-in-End c =
-    let none = rw c.in-End.is at c.next_pattern.ensures in
+pub returns-in-None : goal.returns-in-None
+returns-in-None c =
+    let none = rw c.in-None.is at c.next_pattern.ensures in
     c.loop-pattern.invariant.1 ∙ rw none refl
