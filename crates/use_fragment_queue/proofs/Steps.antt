@@ -97,9 +97,9 @@ counted_is rows e =
           (ap (λ (g : Fragment). g.covered) (sym f), ap (λ (g : Fragment). g.members) (sym f), omega arith)
     ]
 
-pub counted-over : (rows : List Row) → refused 28 ≡ counts rows → cover_limit < covered rows
-counted-over rows e =
+pub counted-over : (rows : List Row) {n : ℕ} → refused n ≡ counts rows → (n ≡ 28) × (cover_limit < covered rows)
+counted-over rows {n} e =
     elim (dec_lt cover_limit (covered rows)) [
-      | yes h ↦ h
+      | yes h ↦ (let z : ◌≡◌ {A = Answer Fragment} (refused n) (refused 28) = e ∙ rw (lt-ltb cover_limit (covered rows) h) refl in cc, h)
       | no h ↦ absurd (refused-given {x = fragment_of rows} (e ∙ rw (le-ltb cover_limit (covered rows) (omega arith)) refl))
     ]

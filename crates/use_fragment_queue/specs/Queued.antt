@@ -1,15 +1,13 @@
 -- What the calls promise over the numbers of a queue.
-use Rattle.std.specs.Prelude.{◌≡◌, ℕ, ltb, List, [], ◌∷◌}
+use Rattle.std.specs.Prelude.{◌≡◌, ℕ, ltb, List, [], ◌∷◌, Result}
 use Rattle.base_fields.specs.Answer.{Answer, given, refused, refuse_if}
+use Rattle.base_fields.specs.Refusal.{told}
+use Rattle.base_fields.specs.declared.refusal.Refusal.{Refusal}
 use Rattle.table_rows.specs.Row.{Row, covered}
 use Rattle.use_fragment_queue.specs.Held.{Fragment, fragment_of, cover_limit, QueueCall, call_held, kept, accepting, FragmentPlace, fragment_at}
 use Rattle.use_fragment_queue.specs.Ring.{call_queue, QueueMade}
-use Rattle.use_fragment_queue.specs.declared.row_count.Counted.{Counted}
-use Rattle.use_fragment_queue.specs.declared.row_count.Counted.TheVariants as counted
-use Rattle.use_fragment_queue.specs.declared.Queued.{Queued}
-use Rattle.use_fragment_queue.specs.declared.Queued.TheVariants as queued
-use Rattle.use_fragment_queue.specs.declared.Located.{Located}
-use Rattle.use_fragment_queue.specs.declared.Located.TheVariants as located
+use Rattle.use_fragment_queue.specs.declared.row_count.FragmentSamples.{FragmentSamples}
+use Rattle.use_fragment_queue.specs.declared.Place.{Place}
 
 -- a call on a queue that holds these fragments: the answer due, a queue that holds those due afterwards, and every number of it
 pub record QueueDue (held : List Fragment) (c : QueueCall) (before after : List ℕ) (told : Answer Unit) : Type 0 where
@@ -26,21 +24,15 @@ pub record GivesQueue (c : QueueCall) (before after : List ℕ) (told : Answer U
 abbrev pub GivesPlace : List ℕ → ℕ → Answer FragmentPlace → Type 0
 GivesPlace q k told = (held : List Fragment) → QueueMade held q → told ≡ fragment_at held k
 
-abbrev pub told_queued : Queued → Answer Unit
-told_queued queued.Done = given tt
-told_queued (queued.Refused n) = refused n
-
-abbrev pub told_located : Located → Answer FragmentPlace
-told_located (located.Place f k) = given (record { fragment = f; sample = k })
-told_located (located.Refused n) = refused n
+abbrev pub told_located : Result Place Refusal → Answer FragmentPlace
+told_located = told (λ p. record { fragment = p.fragment; sample = p.sample })
 
 -- the fragment that rows are: 28 where they cover too many samples
 abbrev pub counts : List Row → Answer Fragment
 counts rows = refuse_if (ltb cover_limit (covered rows)) 28 (given (fragment_of rows))
 
-abbrev pub told_counted : Counted → Answer Fragment
-told_counted (counted.Fragment f) = given (record { covered = f.covered; members = f.members })
-told_counted counted.Over = refused 28
+abbrev pub told_counted : Result FragmentSamples Refusal → Answer Fragment
+told_counted = told (λ f. record { covered = f.covered; members = f.members })
 
 -- a list of calls from one queue on, each with an answer that it promises
 pub data QueueCalls : List ℕ → List QueueCall → List (Answer Unit) → List ℕ → Type 0 where

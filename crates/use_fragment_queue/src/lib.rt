@@ -5,15 +5,15 @@
 mod row_count;
 
 ghost use Rattle.std.specs.Prelude.{◌≡◌};
+ghost use Rattle.base_fields.specs.Refusal.{told_value};
 ghost use Rattle.table_rows.specs.Row.{rows_of};
 ghost use Rattle.use_fragment_queue.specs.Held.{arrive, depart};
 ghost use Rattle.use_fragment_queue.specs.Ring.{held_count, covered_sum_of, member_sum};
-ghost use Rattle.use_fragment_queue.specs.Queued.{GivesQueue, GivesPlace, told_queued, told_located};
+ghost use Rattle.use_fragment_queue.specs.Queued.{GivesQueue, GivesPlace, told_located};
 
 use base_fields::refusal::Refusal;
-use crate::Place;
 use base_ids::{RECORD_LIMIT, RowNumber};
-use row_count::{Counted, count_fragment};
+use row_count::count_fragment;
 use table_rows::record::record_count;
 
 // How many fragments are held, and the sums of their samples.
@@ -24,6 +24,13 @@ pub struct Sums {
     pub members: u64,
 }
 
+// Where a sample is: its fragment, counted from the oldest held, and the sample within it.
+#[derive(Clone, Copy)]
+pub struct Place {
+    pub fragment: u64,
+    pub sample: u64,
+}
+
 const ROOM: u64 = 64;
 
 // 64 times the limit of a fragment: no sum of a queue made by these calls is greater.
@@ -31,15 +38,12 @@ const SUM_LIMIT: u64 = 274877906880;
 
 // A fragment comes with its rows: 55, 28, or 71 where the queue is full.
 pub fn fragment_arrive(queue: &mut [u64; 132], rows: &[RowNumber]) -> Result<(), Refusal>
-    ensures { GivesQueue (arrive (rows_of rows.now)) queue.old queue.new (told_queued result) }
+    ensures { GivesQueue (arrive (rows_of rows.now)) queue.old queue.new (told_value result) }
 {
     if RECORD_LIMIT < record_count(rows) {
         return Err(Refusal::InputTooLong);
     }
-    let fragment = match count_fragment(rows) {
-        Counted::Fragment(f) => f,
-        Counted::Over => return Err(Refusal::RowCountOver),
-    };
+    let fragment = count_fragment(rows)?;
     let covered = fragment.covered;
     let members = fragment.members;
     let count = queue[1];
@@ -66,7 +70,7 @@ pub fn fragment_arrive(queue: &mut [u64; 132], rows: &[RowNumber]) -> Result<(),
 
 // The oldest fragment leaves: 72 where none is held.
 pub fn fragment_depart(queue: &mut [u64; 132]) -> Result<(), Refusal>
-    ensures { GivesQueue depart queue.old queue.new (told_queued result) }
+    ensures { GivesQueue depart queue.old queue.new (told_value result) }
 {
     let count = queue[1];
     if count == 0 {
@@ -106,7 +110,10 @@ pub fn fragment_lookup(queue: &[u64; 132], sample: u64) -> Result<Place, Refusal
     while j < count {
         let covered = queue[4 + 2 * at];
         if left < covered {
-            return Ok(Place { fragment: j, sample: left });
+            return Ok(Place {
+                fragment: j,
+                sample: left,
+            });
         }
         left = left - covered;
         at = (at + 1) % 64;
