@@ -8,16 +8,17 @@ use mathlib.Core.List.{List, [], ◌∷◌, ◌++◌, map, append_assoc}
 use lib.ListN.{length, get_or, set, take, drop, length-append, length-drop, length-map, get_or-map}
 use lib.Seq.{length-take-le, take_all, take-suc, drop-cons, set_at}
 use borrow.Author.Tests.{lt-ltb, le-ltb}
+use Rattle.std.specs.Prelude.{Result, Ok, Err}
 use Rattle.base_fields.specs.Answer.{Answer, given}
+use Rattle.base_fields.specs.Refusal.{told_value}
+use Rattle.base_fields.specs.declared.refusal.Refusal.{Refusal}
 use Rattle.table_rows.specs.Row as row
 use Rattle.table_rows.specs.Row.{Row, rows_of, records_in}
 use Rattle.table_rows.proofs.RowAt.{rows-length}
 use Rattle.base_ids.specs.Limits.{record_limit}
 use Rattle.table_row_structs.specs.Records.{no_row, row_of, record_rows, copy_answer, rows_copied, struct_of, structs_of, copy_into}
-use Rattle.table_row_structs.specs.Steps.{accepted_in, told_written, GivesRows}
+use Rattle.table_row_structs.specs.Steps.{accepted_in, GivesRows}
 use Rattle.table_row_structs.specs.declared.SampleToGroupEntry.{SampleToGroupEntry}
-use Rattle.table_row_structs.specs.declared.Written.{Written}
-use Rattle.table_row_structs.specs.declared.Written.TheVariants as written
 
 pub entries-length : (l : List ℕ) → length (structs_of l) ≡ records_in l
 entries-length l = length-map (rows_of l) struct_of ∙ rows-length l
@@ -75,19 +76,19 @@ module _ (l : List ℕ) (rows : List SampleToGroupEntry) where
   pub up_to-next : (k : ℕ) → k < records_in l → k < length rows → set (up_to k) k (get_or (structs_of l) k no_row) ≡ up_to (k + 1)
   up_to-next k g h = first_of-next (structs_of l) rows k (omega (arith, entries-length l)) h
 
-  module _ (r : Written) (e : told_written r ≡ copy_into l rows) where
+  module _ (r : Result ℕ Refusal) (e : told_value r ≡ copy_into l rows) where
     pub accepted-within : (accepted_in r ≤ records_in l) × (accepted_in r ≤ length rows)
     accepted-within = within r e
       where
-        within : (r : Written) → told_written r ≡ copy_into l rows → (accepted_in r ≤ records_in l) × (accepted_in r ≤ length rows)
-        within (written.Rows m) e = let g = given-all m (records_in l) (length rows) e in (omega (arith, g), omega (arith, g))
-        within (written.Refused m) e = (omega arith, omega arith)
+        within : (r : Result ℕ Refusal) → told_value r ≡ copy_into l rows → (accepted_in r ≤ records_in l) × (accepted_in r ≤ length rows)
+        within (Ok m) e = let g = given-all m (records_in l) (length rows) e in (omega (arith, g), omega (arith, g))
+        within (Err x) e = (omega arith, omega arith)
 
     pub copies : GivesRows l rows (up_to (accepted_in r)) r
     copies = record { answer = e; rows = ends r e ∙ ap (λ (a : Answer ℕ). rows_copied a l rows) e }
       where
-        ends : (r : Written) → told_written r ≡ copy_into l rows → up_to (accepted_in r) ≡ rows_copied (told_written r) l rows
-        ends (written.Rows m) e =
+        ends : (r : Result ℕ Refusal) → told_value r ≡ copy_into l rows → up_to (accepted_in r) ≡ rows_copied (told_value r) l rows
+        ends (Ok m) e =
             let g = given-all m (records_in l) (length rows) e in
             rw (take_all m (structs_of l) (omega (arith, g, entries-length l)))
-        ends (written.Refused m) e = refl
+        ends (Err x) e = refl

@@ -1,41 +1,32 @@
--- The answers of the enums, and a lookup under way.
-use Rattle.std.specs.Prelude.{ℕ, ◌+◌, ◌-◌, ◌≡◌, List, ltb, length}
-use Rattle.base_fields.specs.Answer.{Answer, given, none, refused, choose}
+-- What the results tell, and a lookup under way.
+use Rattle.std.specs.Prelude.{ℕ, ◌+◌, ◌-◌, ◌≡◌, List, ltb, length, Result, Ok, Err, Option, Some, None}
+use Rattle.base_fields.specs.Answer.{Answer, given, none, choose}
+use Rattle.base_fields.specs.Refusal.{told_value, told_or_none}
+use Rattle.base_fields.specs.declared.refusal.Refusal.{Refusal}
 use Rattle.table_row_structs.specs.Records.{set_answer, rows_set, rows_copied, copy_into}
 use Rattle.table_row_structs.specs.declared.SampleToGroupEntry.{SampleToGroupEntry}
-use Rattle.table_row_structs.specs.declared.ReadRow.{ReadRow}
-use Rattle.table_row_structs.specs.declared.ReadRow.TheVariants as read
-use Rattle.table_row_structs.specs.declared.SetRow.{SetRow}
-use Rattle.table_row_structs.specs.declared.SetRow.TheVariants as setting
 use Rattle.table_row_structs.specs.declared.Search.{Search}
-use Rattle.table_row_structs.specs.declared.Written.{Written}
-use Rattle.table_row_structs.specs.declared.Written.TheVariants as written
 
-abbrev pub told_row : ReadRow → Answer SampleToGroupEntry
-told_row (read.Row row) = given row
-told_row read.Nothing = none
-told_row (read.Refused n) = refused n
+abbrev pub told_row : Result (Option SampleToGroupEntry) Refusal → Answer SampleToGroupEntry
+told_row = told_or_none (λ row. row)
 
-abbrev pub told_set : SetRow → Answer Unit
-told_set setting.Set = given tt
-told_set setting.Nothing = none
+abbrev pub told_set : Option Unit → Answer Unit
+told_set (Some u) = given tt
+told_set None = none
 
 -- the answer of setting row k, and every row afterwards
-pub record GivesSet (before after : List SampleToGroupEntry) (k : ℕ) (row : SampleToGroupEntry) (r : SetRow) : Type 0 where
+pub record GivesSet (before after : List SampleToGroupEntry) (k : ℕ) (row : SampleToGroupEntry) (r : Option Unit) : Type 0 where
   pub answer : told_set r ≡ set_answer (length before) k
   pub rows : after ≡ rows_set (set_answer (length before) k) before k row
 
-abbrev pub told_written : Written → Answer ℕ
-told_written (written.Rows n) = given n
-told_written (written.Refused n) = refused n
-
-abbrev pub accepted_in : Written → ℕ
-accepted_in (written.Rows n) = n
-accepted_in (written.Refused n) = 0
+-- how many rows an answer says are written
+abbrev pub accepted_in : Result ℕ Refusal → ℕ
+accepted_in (Ok n) = n
+accepted_in (Err e) = 0
 
 -- the writer's answer, and every row afterwards
-pub record GivesRows (l : List ℕ) (before after : List SampleToGroupEntry) (r : Written) : Type 0 where
-  pub answer : told_written r ≡ copy_into l before
+pub record GivesRows (l : List ℕ) (before after : List SampleToGroupEntry) (r : Result ℕ Refusal) : Type 0 where
+  pub answer : told_value r ≡ copy_into l before
   pub rows : after ≡ rows_copied (copy_into l before) l before
 
 abbrev pub search_from : ℕ → Search

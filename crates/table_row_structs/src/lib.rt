@@ -7,7 +7,7 @@ ghost use Rattle.table_rows.specs.Row.{record_numbers, records_in, within_record
 ghost use Rattle.base_fields.specs.Refusal.{told_value};
 ghost use Rattle.table_rows.specs.Found.{told_index};
 ghost use Rattle.table_row_structs.specs.Records.{no_row, row_in, set_answer, lookup_in, total_in, or_too_many, read_count, copy_answer, structs_of};
-ghost use Rattle.table_row_structs.specs.Steps.{told_row, told_set, GivesSet, accepted_in, search_from, passed, told_written, GivesRows};
+ghost use Rattle.table_row_structs.specs.Steps.{told_row, told_set, GivesSet, accepted_in, search_from, passed, GivesRows};
 
 use base_fields::refusal::Refusal;
 use base_ids::{
@@ -144,7 +144,7 @@ fn record_at(numbers: &[RowNumber], k: usize) -> SampleToGroupEntry
 
 // What is answered where a run of so many numbers is written over so many rows.
 fn written_over(numbers: usize, rows: usize) -> Result<usize, Refusal>
-    ensures { told_written result ≡ copy_answer (numbers / record_numbers) rows }
+    ensures { told_value result ≡ copy_answer (numbers / record_numbers) rows }
 {
     let records = numbers / RECORD_NUMBERS;
     if RECORD_LIMIT < records {
@@ -221,7 +221,10 @@ fn index_told(n: usize, search: Search) -> Result<DescriptionIndex, Refusal>
 }
 
 // The index of the row that covers a sample; 0 past the end. No row behind that one is read.
-pub fn group_index_for_sample(rows: &[SampleToGroupEntry], sample: SampleNumber) -> Result<DescriptionIndex, Refusal>
+pub fn group_index_for_sample(
+    rows: &[SampleToGroupEntry],
+    sample: SampleNumber,
+) -> Result<DescriptionIndex, Refusal>
     ensures { told_index result ≡ lookup_in rows.now sample.0 }
 {
     let n = row_count(rows);
