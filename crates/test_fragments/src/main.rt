@@ -12,10 +12,10 @@ fn tell(rt: &impl Print, name: &str, same: bool) -> io::Result<()> {
     }
 }
 
-fn refused_with(told: Result<(), Refusal>, n: u32) -> bool {
+fn refused_with(told: Result<(), Refusal>, wanted: Refusal) -> bool {
     match told {
         Ok(()) => false,
-        Err(m) => m == n,
+        Err(refusal) => refusal == wanted,
     }
 }
 
@@ -30,7 +30,7 @@ fn main(rt: HostRuntime) -> io::Result<()> {
     tell(
         rt,
         "28 of a fragment in a full queue",
-        refused_with(told, 28),
+        refused_with(told, Refusal::RowCountOver),
     )?;
     tell(rt, "a queue after 28", full[1] == 64 && full[4] == 5)?;
     // fragments of 5 and of 9 samples
@@ -42,11 +42,11 @@ fn main(rt: HostRuntime) -> io::Result<()> {
     two[5] = 1;
     two[6] = 9;
     two[7] = 2;
-    use_fragment_queue::fragment_depart(&mut two);
+    let departed = use_fragment_queue::fragment_depart(&mut two);
     let left = use_fragment_queue::fragment_sums(&two);
     tell(
         rt,
         "the oldest fragment leaves",
-        left.fragments == 1 && left.covered == 9 && left.members == 2,
+        departed.is_ok() && left.fragments == 1 && left.covered == 9 && left.members == 2,
     )
 }
