@@ -3,16 +3,14 @@
 
 ghost use Rattle.std.specs.Prelude.{◌≤◌, length};
 
+use base_fields::refusal::Refusal;
 use std::io;
 use std::io::Read;
 
 // Two lower-case digits for each byte.
 pub fn print_bytes(rt: &impl Print, bytes: &[u8]) -> io::Result<()> {
-    let mut i = 0;
-    while i < bytes.len() {
-        let byte = bytes[i];
+    for byte in bytes {
         print!(rt; "{byte:02x}")?;
-        i = i + 1;
     }
     Ok(())
 }
@@ -22,7 +20,8 @@ pub fn print_listing(rt: &impl Print, listing: &[u8]) -> io::Result<()> {
     println!(rt; "")
 }
 
-pub fn print_refused(rt: &impl Print, n: u32) -> io::Result<()> {
+pub fn print_refused(rt: &impl Print, refusal: Refusal) -> io::Result<()> {
+    let n = refusal.number();
     println!(rt; "refused {n}")
 }
 
@@ -33,12 +32,8 @@ pub fn read_full(from: &mut impl Read, held: &mut [u8]) -> usize
     let mut done = 0;
     while done < held.len() {
         match from.read(&mut held[done..]) {
-            Ok(n) => {
-                if n == 0 {
-                    return done;
-                }
-                done = done + n;
-            }
+            Ok(0) => return done,
+            Ok(n) => done += n,
             Err(_) => return done,
         }
     }

@@ -1,5 +1,5 @@
 // A cue listing in words, for the programs.
 #![tactic(auto)]
 
-mod numbers;
+mod rest;
 pub mod words;

@@ -1,9 +1,0 @@
--- The measure is how many pairs are left.
-use Rattle.std.proofs.Common.{◌≤◌}
-use Rattle.cue_words.proofs.words.print_pairs.Given as goal
-
-abbrev pub invariant-loop-left : goal.invariant-loop-left
-invariant-loop-left g l = l.left ≤ l.count
-
-abbrev pub decreases-loop-left : goal.decreases-loop-left
-decreases-loop-left g l = l.left
