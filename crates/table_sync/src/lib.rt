@@ -5,7 +5,8 @@ ghost use Rattle.std.specs.Prelude.{◌≡◌, ◌+◌, ◌*◌, ◌≤◌, leng
 ghost use Rattle.base_fields.specs.Answer.{given, choose, and_then, input_limit};
 ghost use Rattle.base_fields.specs.Number.{be_at};
 ghost use Rattle.table_sync.specs.Sync.{stss, is_sync, last_up_to, last_sync, dependency_at, dependency_of};
-ghost use Rattle.table_sync.specs.Told.{told_number, told_sync, told_sample, told_dependency, fields_of};
+ghost use Rattle.base_fields.specs.Refusal.{told_value};
+ghost use Rattle.table_sync.specs.Told.{told_sample, told_dependency, fields_of};
 
 use base_fields::refusal::Refusal;
 use base_fields::{INPUT_LIMIT, read_u8, read_u32};
@@ -34,7 +35,7 @@ fn later(found: u32, number: u32, limit: u64) -> u32
 // The numbers of an stss that is all there, in one pass: 66 where they do not rise.
 fn last_number(s: &[u8], count: u32, limit: u64) -> Result<u32, Refusal>
     requires { (8 + 4 * count ≤ length s.now) × (length s.now ≤ input_limit) × (count ≡ be_at 4 s.now 4) }
-    ensures { told_number result ≡ and_then (stss s.now) (λ numbers. given (last_up_to limit numbers)) }
+    ensures { told_value result ≡ and_then (stss s.now) (λ numbers. given (last_up_to limit numbers)) }
 {
     let mut k: u32 = 0;
     // The smallest number that may follow.
@@ -54,7 +55,7 @@ fn last_number(s: &[u8], count: u32, limit: u64) -> Result<u32, Refusal>
 
 // The greatest number of an stss up to a limit.
 fn number_up_to(s: &[u8], limit: u64) -> Result<u32, Refusal>
-    ensures { told_number result ≡ and_then (stss s.now) (λ numbers. given (last_up_to limit numbers)) }
+    ensures { told_value result ≡ and_then (stss s.now) (λ numbers. given (last_up_to limit numbers)) }
 {
     if INPUT_LIMIT < s.len() {
         return Err(Refusal::InputTooLong);
@@ -71,34 +72,22 @@ fn number_up_to(s: &[u8], limit: u64) -> Result<u32, Refusal>
 
 // Whether a sample, counted from 0, is a sync sample.
 pub fn is_sync_sample(s: &[u8], sample: SampleNumber) -> Result<bool, Refusal>
-    ensures { told_sync result ≡ is_sync s.now sample.0 }
+    ensures { told_value result ≡ is_sync s.now sample.0 }
 {
     let wanted = sample.0 as u64 + 1;
-    match number_up_to(s, wanted) {
-        Ok(n) => {
-            if n as u64 == wanted {
-                Ok(true)
-            } else {
-                Ok(false)
-            }
-        }
-        Err(code) => Err(code),
-    }
+    let n = number_up_to(s, wanted)?;
+    Ok(n as u64 == wanted)
 }
 
 // The last sync sample, counted from 0, at or before a frame.
 pub fn last_sync_sample(s: &[u8], frame: SampleNumber) -> Result<Option<SampleNumber>, Refusal>
     ensures { told_sample result ≡ last_sync s.now frame.0 }
 {
-    match number_up_to(s, frame.0 as u64 + 1) {
-        Ok(n) => {
-            if n == 0 {
-                return Ok(None);
-            }
-            Ok(Some(SampleNumber(n - 1)))
-        }
-        Err(code) => Err(code),
+    let n = number_up_to(s, frame.0 as u64 + 1)?;
+    if n == 0 {
+        return Ok(None);
     }
+    Ok(Some(SampleNumber(n - 1)))
 }
 
 // The fields of a byte, highest first.
@@ -114,7 +103,10 @@ fn dependency_of(b: u8) -> SampleDependency
 }
 
 // What depends on what, of a sample counted from 0: none past the last byte of an sdtp.
-pub fn sample_dependency(s: &[u8], sample: SampleNumber) -> Result<Option<SampleDependency>, Refusal>
+pub fn sample_dependency(
+    s: &[u8],
+    sample: SampleNumber,
+) -> Result<Option<SampleDependency>, Refusal>
     ensures { told_dependency result ≡ dependency_at s.now sample.0 }
 {
     if INPUT_LIMIT < s.len() {
