@@ -3,17 +3,13 @@ ghost use Rattle.std.specs.Prelude.{◌≡◌, true, List, [], ◌∷◌, ℕ, �
 ghost use Rattle.base_fields.specs.Answer.{choose, and_then, input_limit};
 ghost use Rattle.base_fields.specs.Span.{Span};
 ghost use Rattle.atom_tree.specs.Atom.{Sound};
-ghost use Rattle.atom_tree.specs.Told.{header_of, told_child};
+ghost use Rattle.base_fields.specs.Refusal.{number};
+ghost use Rattle.atom_tree.specs.Told.{header_of, child_of, span_of, told_child};
 ghost use Rattle.atom_path.specs.Path.{end_in, atom_at, body_span, present_at, at_level};
-ghost use Rattle.atom_path.specs.Told.{child_of, span_of, told_body, level_of, levels_left, sought_in, LevelGives};
+ghost use Rattle.atom_path.specs.Told.{told_body, level_of, levels_left, sought_in, LevelGives};
 
+use atom_tree::{AtomHeader, BodyAt, Child, next_child, read_atom_header};
 use base_fields::refusal::Refusal;
-use atom_tree::BodyAt;
-use atom_tree::Child;
-use super::{Container};
-use atom_tree::{
-    AtomHeader, next_child, read_atom_header,
-};
 
 // Types of containers, four bytes as one number.
 const MOOV: u32 = 0x6d6f_6f76;
@@ -31,7 +27,7 @@ const STBL: u32 = 0x7374_626c;
 pub struct PathLevel {
     pub fourcc: u32,
     pub number: u32,
-    pub missing: u32,
+    pub missing: Refusal,
     pub top: bool,
 }
 
@@ -40,15 +36,15 @@ pub struct PathLevel {
 enum Sought {
     // So many atoms of the type are passed over before the one that is looked for.
     Ahead(u32),
-    Found(Container),
+    Found(BodyAt),
 }
 
-fn level(fourcc: u32, number: u32, missing: u32, top: bool) -> PathLevel
-    ensures { level_of result ≡ record { type = fourcc; number = number; missing = missing; top = top } }
+fn level(fourcc: u32, which: u32, missing: Refusal, top: bool) -> PathLevel
+    ensures { level_of result ≡ record { type = fourcc; number = which; missing = number missing; top = top } }
 {
     PathLevel {
         fourcc,
-        number,
+        number: which,
         missing,
         top,
     }
@@ -60,11 +56,11 @@ fn level_with(levels: u32, track: u32) -> PathLevel
     ensures { (levels_left levels track ≡ level_of result ∷ levels_left (levels - 1) track) × (result.top ≡ eqb levels 5) }
 {
     match levels {
-        5 => level(MOOV, 0, 60, true),
-        4 => level(TRAK, track, 60, false),
-        3 => level(MDIA, 0, 61, false),
-        2 => level(MINF, 0, 61, false),
-        _ => level(STBL, 0, 61, false),
+        5 => level(MOOV, 0, Refusal::NoTrack, true),
+        4 => level(TRAK, track, Refusal::NoTrack, false),
+        3 => level(MDIA, 0, Refusal::NoContainer, false),
+        2 => level(MINF, 0, Refusal::NoContainer, false),
+        _ => level(STBL, 0, Refusal::NoContainer, false),
     }
 }
 
@@ -83,12 +79,11 @@ fn top_end(h: AtomHeader, at: u64, end: u64) -> u64
 fn top_atom(s: &[u8], end: u64, at: u64) -> Result<Option<Child>, Refusal>
     ensures { told_child result ≡ atom_at true s.now end at }
 {
-    let read = read_atom_header(s, at);
-    match read {
-        Ok(Some(h)) => Ok(Some(Child { head: h, next: top_end(h, at, end) })),
-        Ok(None) => Ok(None),
-        Err(n) => Err(n),
-    }
+    let Some(head) = read_atom_header(s, at)? else {
+        return Ok(None);
+    };
+    let next = top_end(head, at, end);
+    Ok(Some(Child { head, next }))
 }
 
 // The atom at a place of a level, and the place of the next one.
@@ -102,33 +97,34 @@ fn next_atom(s: &[u8], top: bool, end: u64, at: u64) -> Result<Option<Child>, Re
     }
 }
 
-// The body of an atom that ends at `next`: empty where its header passes that end.
-fn body_of(h: AtomHeader, next: u64) -> Container
-    ensures { span_of result ≡ body_span (child_of h next) }
+// The body of an atom, up to the next one's place: empty where its header passes that.
+fn body_of(atom: Child) -> BodyAt
+    ensures { span_of result ≡ body_span (child_of atom) }
 {
-    let place = h.payload_offset;
+    let place = atom.head.payload_offset;
+    let next = atom.next;
     if place < next {
-        Container {
+        BodyAt {
             place,
             size: next - place,
         }
     } else {
-        Container { place, size: 0 }
+        BodyAt { place, size: 0 }
     }
 }
 
-// The search behind an atom that ends at `next`.
-fn search_behind(sought: Sought, fourcc: u32, h: AtomHeader, next: u64) -> Sought
-    ensures { (missing : ℕ) (rest : List Span) → sought_in result missing rest ≡ sought_in sought missing (choose (eqb (header_of h).type fourcc) (body_span (child_of h next) ∷ rest) rest) }
+// The search behind an atom.
+fn search_behind(sought: Sought, fourcc: u32, atom: Child) -> Sought
+    ensures { (missing : ℕ) (rest : List Span) → sought_in result missing rest ≡ sought_in sought missing (choose (eqb (child_of atom).head.type fourcc) (body_span (child_of atom) ∷ rest) rest) }
 {
     match sought {
         Sought::Found(body) => Sought::Found(body),
         Sought::Ahead(n) => {
-            if h.fourcc != fourcc {
+            if atom.head.fourcc != fourcc {
                 return Sought::Ahead(n);
             }
             if n == 0 {
-                return Sought::Found(body_of(h, next));
+                return Sought::Found(body_of(atom));
             }
             Sought::Ahead(n - 1)
         }
@@ -136,7 +132,7 @@ fn search_behind(sought: Sought, fourcc: u32, h: AtomHeader, next: u64) -> Sough
 }
 
 // The first moov is 11 where it passes the given bytes.
-fn present_body(s: &[u8], top: bool, body: Container) -> Result<BodyAt, Refusal>
+fn present_body(s: &[u8], top: bool, body: BodyAt) -> Result<BodyAt, Refusal>
     ensures { told_body result ≡ present_at top s.now (span_of body) }
 {
     if top {
@@ -153,7 +149,7 @@ fn present_body(s: &[u8], top: bool, body: Container) -> Result<BodyAt, Refusal>
 
 // Behind the last atom of a level.
 fn found_in(s: &[u8], level: PathLevel, sought: Sought) -> Result<BodyAt, Refusal>
-    ensures { told_body result ≡ and_then (sought_in sought level.missing []) (present_at level.top s.now) }
+    ensures { told_body result ≡ and_then (sought_in sought (number level.missing) []) (present_at level.top s.now) }
 {
     match sought {
         Sought::Ahead(_) => Err(level.missing),
@@ -162,7 +158,7 @@ fn found_in(s: &[u8], level: PathLevel, sought: Sought) -> Result<BodyAt, Refusa
 }
 
 // Walks a level to its end, and gives the body of the atom that is looked for.
-fn find_in_level(s: &[u8], level: PathLevel, parent: Container) -> Result<BodyAt, Refusal>
+fn find_in_level(s: &[u8], level: PathLevel, parent: BodyAt) -> Result<BodyAt, Refusal>
     requires { (length s.now ≤ input_limit) × (parent.place + parent.size ≤ length s.now) × (level.top ≡ true → parent.place + parent.size ≡ length s.now) }
     ensures { told_body result ≡ at_level s.now (level_of level) (span_of parent) }
 {
@@ -171,23 +167,23 @@ fn find_in_level(s: &[u8], level: PathLevel, parent: Container) -> Result<BodyAt
     let end = parent.place + parent.size;
     let mut at = parent.place;
     let mut sought = Sought::Ahead(level.number);
-    loop {
-        let atom = next_atom(s, top, end, at);
-        match atom {
-            Ok(Some(Child { head: h, next })) => {
-                sought = search_behind(sought, fourcc, h, next);
-                at = next;
-            }
-            Ok(None) => return found_in(s, level, sought),
-            Err(n) => return Err(n),
-        }
+    while let Some(atom) = next_atom(s, top, end, at)? {
+        sought = search_behind(sought, fourcc, atom);
+        at = atom.next;
     }
+    found_in(s, level, sought)
 }
 
 // The level with so many levels to go, itself among them, in the container at a place.
-pub fn search_level(s: &[u8], track: u32, levels: u32, place: u64, size: u64) -> Result<BodyAt, Refusal>
+pub fn search_level(
+    s: &[u8],
+    track: u32,
+    levels: u32,
+    place: u64,
+    size: u64,
+) -> Result<BodyAt, Refusal>
     requires { (length s.now ≤ input_limit) × (0 < levels) × (levels ≤ 5) × (place + size ≤ length s.now) × (levels ≡ 5 → place + size ≡ length s.now) }
     ensures { LevelGives s.now levels track (record { place = place; size = size }) result }
 {
-    find_in_level(s, level_with(levels, track), Container { place, size })
+    find_in_level(s, level_with(levels, track), BodyAt { place, size })
 }

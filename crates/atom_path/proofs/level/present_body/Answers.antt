@@ -1,5 +1,5 @@
 -- By the two tests, which cannot wrap.
-use Rattle.atom_path.specs.Told.{span_of}
+use Rattle.atom_tree.specs.Told.{span_of}
 use Rattle.atom_path.proofs.Cases.{body-past, body-there}
 use native.Mathlib.Omega.{arith}
 use mathlib.Core.Path.{refl}

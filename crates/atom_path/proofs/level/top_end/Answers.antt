@@ -4,10 +4,10 @@ use native.Mathlib.Omega.{arith}
 use Rattle.atom_path.proofs.level.top_end.Goals as goal
 
 pub overflow_add-result : goal.overflow_add-result
-overflow_add-result c = omega (arith, (rw c.in-Bytes.is at c.requires.ends).1)
+overflow_add-result c = omega (arith, (rw c.in-Some.is at c.requires.ends).1)
 
-pub returns-in-Bytes : goal.returns-in-Bytes
-returns-in-Bytes c = rw c.in-Bytes.is refl
+pub returns-in-Some : goal.returns-in-Some
+returns-in-Some c = rw c.in-Some.is refl
 
-pub returns-in-Open : goal.returns-in-Open
-returns-in-Open c = rw c.in-Open.is refl
+pub returns-in-None : goal.returns-in-None
+returns-in-None c = rw c.in-None.is refl
