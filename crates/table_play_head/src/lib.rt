@@ -134,7 +134,11 @@ pub fn move_by_value(head: PlayHead, rows: &[RowNumber]) -> Turn
 }
 
 // A lent head set to a sample, or to the end where that comes before.
-pub fn play_set(head: &mut PlayHead, rows: &[RowNumber], sample: SampleNumber) -> Result<DescriptionIndex, Refusal>
+pub fn play_set(
+    head: &mut PlayHead,
+    rows: &[RowNumber],
+    sample: SampleNumber,
+) -> Result<DescriptionIndex, Refusal>
     ensures { GivesTurn (set_told rows.now sample.0) head.entry.now (record { head = head.exit.now; found = result }) }
 {
     let t = set_by_value(*head, rows, sample);
