@@ -1,6 +1,6 @@
 // Runs of equal indices within a pattern, so that no work is done for each single sample. Fields of one width hold equal indices where their bits
 // are equal, so the bits are compared, and the index is made of them once for a run.
-ghost use Rattle.std.specs.Prelude.{◌≡◌, ◌+◌, ◌*◌, ◌≤◌, ◌<◌, min, length as size};
+ghost use Rattle.std.specs.Prelude.{◌≡◌, ◌+◌, ◌*◌, ◌≤◌, ◌<◌, length as size};
 ghost use Rattle.base_fields.specs.Answer.{input_limit};
 ghost use Rattle.table_patterns.specs.Place.{bit_count, field_number, pattern_in, Stands};
 ghost use Rattle.table_patterns.specs.Run.{GivesRun, AlikeIndices, alike, SameWords};
@@ -22,23 +22,16 @@ fn equal_indices(s: &[u8], width: u32, place: usize, from: u32, end: u32) -> Run
     ensures { AlikeIndices (field_number width s.now place) from end result }
 {
     let step = width as usize;
-    let mut at = place + step * (from as usize);
-    let index = late_bits(s, at, width);
-    let mut count: u32 = 1;
-    while from + count < end {
-        at = at + step;
-        if late_bits(s, at, width) != index {
+    let index = late_bits(s, place + step * (from as usize), width);
+    for count in 1..end - from {
+        if late_bits(s, place + step * ((from + count) as usize), width) != index {
             return Run { count, index };
         }
-        count = count + 1;
     }
-    Run { count, index }
-}
-
-fn least(a: u32, b: u32) -> u32
-    ensures { result ≡ min a b }
-{
-    if a < b { a } else { b }
+    Run {
+        count: end - from,
+        index,
+    }
 }
 
 // Up to where the eight bytes before `at` come again and again, not past `stop`.
@@ -75,16 +68,13 @@ fn far_indices(s: &[u8], width: u32, place: usize, from: u32, end: u32, index: u
     let start = place + step * (from as usize);
     let stop = (place + step * (end as usize)) / 8;
     let words = equal_words(s, (start + step * (NEAR as usize)) / 8, stop);
-    let mut count = ((8 * words - start) / step) as u32;
-    let mut at = start + step * (count as usize);
-    while from + count < end {
-        if late_bits(s, at, width) != index {
+    let passed = ((8 * words - start) / step) as u32;
+    for count in passed..end - from {
+        if late_bits(s, start + step * (count as usize), width) != index {
             return count;
         }
-        at = at + step;
-        count = count + 1;
     }
-    count
+    end - from
 }
 
 // The same as `equal_indices`, faster where many are equal.
@@ -92,7 +82,7 @@ fn alike_indices(s: &[u8], width: u32, place: usize, from: u32, end: u32) -> Run
     requires { (width ≤ 32) × (64 ≤ place + width) × (from < end) × (place + width * end ≤ bit_count s.now) × (size s.now ≤ input_limit) }
     ensures { AlikeIndices (field_number width s.now place) from end result }
 {
-    let first = equal_indices(s, width, place, from, from + least(end - from, NEAR));
+    let first = equal_indices(s, width, place, from, from + (end - from).min(NEAR));
     if first.count != NEAR {
         return first;
     }
@@ -110,7 +100,7 @@ pub fn run_at(s: &[u8], pattern: PatternAt, k: PatternCount) -> Run
 {
     let from = k % pattern.length;
     let left = pattern.count - k;
-    let end = from + least(left, pattern.length - from);
+    let end = from + left.min(pattern.length - from);
     let run = alike_indices(s, pattern.width, pattern.indices, from, end);
     let index = index_value(run.index, pattern);
     if run.count == pattern.length {

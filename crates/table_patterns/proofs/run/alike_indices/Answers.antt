@@ -8,13 +8,13 @@ pub equal_indices-first-requires : goal.equal_indices-first-requires
 equal_indices-first-requires c =
     let a = c.args in
     let h = c.requires in
-    let n = c.least.ensures in
-    let before : a.from + c.least.result ≤ a.end = omega arith in
+    let n = c.min.ensures in
+    let before : a.from + c.min.result ≤ a.end = omega arith in
     (h.0, h.1, omega arith, omega (arith, mul-le-mul_left a.width before, h.3), h.4)
 
 pub far_indices-requires : goal.far_indices-requires
 far_indices-requires c =
     let h = c.requires in
     let e = c.equal_indices-first.ensures in
-    let n = c.least.ensures in
+    let n = c.min.ensures in
     (h.0, h.1, h.3, h.4, record { some = omega arith; within = omega (arith, e.within); same = λ j l. e.same j (omega (arith, c.if-first-ne-NEAR.false)) })

@@ -1,12 +1,7 @@
--- The loop's invariant: the indices passed are alike, and `at` is the place of the last one.
-use mathlib.Core.Path.{◌≡◌}
-use Prim.Native.Nat.{◌+◌, ◌-◌, ◌*◌}
+-- The loop's invariant: the indices passed are alike.
 use Rattle.table_patterns.specs.Place.{field_number}
 use Rattle.table_patterns.specs.Run.{AlikeIndices}
 use Rattle.table_patterns.proofs.run.equal_indices.Given as goal
 
 abbrev pub invariant-loop-count : goal.invariant-loop-count
-invariant-loop-count l = AlikeIndices (field_number l.width l.s l.place) l.from l.end (record { count = l.count; index = l.index }) × (l.at + l.width ≡ l.place + l.width * (l.from + l.count))
-
-abbrev pub decreases-loop-count : goal.decreases-loop-count
-decreases-loop-count l = l.end - (l.from + l.count)
+invariant-loop-count l = AlikeIndices (field_number l.width l.s l.place) l.from l.end (record { count = l.count; index = l.index })

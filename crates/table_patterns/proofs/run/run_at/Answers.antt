@@ -21,14 +21,14 @@ pub overflow_sub-pattern : goal.overflow_sub-pattern
 overflow_sub-pattern c = omega (arith, turn_below c.args.k c.args.pattern.length c.requires.0.some)
 
 pub overflow_add-end : goal.overflow_add-end
-overflow_add-end c = omega (arith, turn_below c.args.k c.args.pattern.length c.requires.0.some, c.least.ensures)
+overflow_add-end c = omega (arith, turn_below c.args.k c.args.pattern.length c.requires.0.some, c.min.ensures)
 
 pub alike_indices-run-requires : goal.alike_indices-run-requires
 alike_indices-run-requires c =
     let p = c.args.pattern in
     let m = turn_below c.args.k p.length c.requires.0.some in
-    let n = c.least.ensures in
-    let h : c.args.k % p.length + c.least.result ≤ p.length = omega arith in
+    let n = c.min.ensures in
+    let h : c.args.k % p.length + c.min.result ≤ p.length = omega arith in
     (c.requires.0.narrow, c.requires.0.late, omega (arith, c.requires.1), omega (arith, mul-le-mul_left p.width h, c.requires.0.inside), c.requires.0.short)
 
 pub index_value-index-requires : goal.index_value-index-requires
@@ -49,7 +49,7 @@ module _ (c : After-index_value-index) where
   index = index_number place.marks place.width c.args.s.now place.indices
 
   abbrev stop : ℕ
-  stop = turn + c.least.result
+  stop = turn + c.min.result
 
   alike : AlikeIndices index turn stop (record { count = c.alike_indices-run.result.count; index = c.index_value-index.result })
   alike =
@@ -63,13 +63,13 @@ returns-then-run-pattern c =
     let m = turn_below c.args.k p.length c.requires.0.some in
     let t = subst (λ (n : ℕ). AlikeIndices (index valued) (turn valued) (stop valued) (record { count = n; index = c.index_value-index.result })) c.if-run-pattern.true (alike valued) in
     gives-run c.args.s.now p c.args.k _ c.requires.0.some
-    (run-all (index valued) p.length c.args.k p.count c.requires.0.some _ _ t (omega (arith, c.least.ensures)) c.requires.1)
+    (run-all (index valued) p.length c.args.k p.count c.requires.0.some _ _ t (omega (arith, c.min.ensures)) c.requires.1)
 
 pub returns : goal.returns
 returns c =
     let valued = (goal.at.returns c).After-index_value-index in
     let p = c.args.pattern in
     let m = turn_below c.args.k p.length c.requires.0.some in
-    let n = c.least.ensures in
+    let n = c.min.ensures in
     gives-run c.args.s.now p c.args.k _ c.requires.0.some
     (run-part _ p.length c.args.k p.count c.requires.0.some _ _ (alike valued) (omega arith) (omega arith) c.requires.1)
