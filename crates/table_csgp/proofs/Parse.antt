@@ -1,15 +1,17 @@
 -- From the rows of a payload to what its reader answers, and what the rows tell of its patterns.
+use Rattle.std.specs.Prelude.{Ok, Err}
 use mathlib.Core.Path.{◌≡◌, refl, ◌∙◌}
 use Prim.Native.Nat.{ℕ}
 use native.Mathlib.Omega.{arith}
 use mathlib.Core.List.{List, [], reverse}
 use lib.ListN.{length, length-reverse}
 use Rattle.base_fields.specs.Answer.{Answer, given, none, refused, and_then}
+use Rattle.base_fields.specs.Refusal.{number}
+use Rattle.base_fields.specs.declared.refusal.Refusal.{Refusal}
 use Rattle.table_rows.specs.Row.{Row, filled}
 use Rattle.table_rows.specs.Pattern.{Pattern, samples_of}
 use Rattle.table_replay.specs.Replay.{replay}
 use Rattle.table_rows.specs.Found.{GivesTable}
-use Rattle.table_rows.specs.declared.ParsedTable.TheVariants as parsed
 use Rattle.table_csgp_head.specs.Csgp.{csgp}
 use Rattle.table_csgp.specs.Table.{parse_csgp, csgp_table}
 use Rattle.table_csgp_head.specs.Head.{Fixed}
@@ -28,11 +30,11 @@ module _ (s : List ℕ) (room : ℕ) where
       by (refused n) = refl
 
   -- refused before the rows, or by them
-  pub parse_refused : (n : ℕ) (l : List ℕ) → rows_for s room ≡ refused n → GivesTable (parse_csgp s room) l l (parsed.Refused n)
+  pub parse_refused : (n : Refusal) (l : List ℕ) → rows_for s room ≡ refused (number n) → GivesTable (parse_csgp s room) l l (Err n)
   parse_refused n l e = record { answer = rw (parse_rows, e); rows = rw (parse_rows, e) }
 
   pub parse_given : (head : CsgpHead) → Fixed s head → (l after : List ℕ) {out : List Row} → rows_for s room ≡ given out → after ≡ filled reverse (rows_for s room) l → (n : ℕ) → n ≡ length out →
-      GivesTable (parse_csgp s room) l after (parsed.Table (record { grouping_type = head.grouping_type; grouping_type_parameter = head.grouping_type_parameter; entry_count = n }))
+      GivesTable (parse_csgp s room) l after (Ok (record { grouping_type = head.grouping_type; grouping_type_parameter = head.grouping_type_parameter; entry_count = n }))
   parse_given head f l after {out} e w n m =
       record {
         answer = rw (parse_rows, e, f.grouping_type_of, f.parameter, m, length-reverse out);

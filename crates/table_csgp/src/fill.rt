@@ -5,7 +5,6 @@ ghost use Rattle.table_rows.specs.Row.{Row, records_in, filled};
 ghost use Rattle.table_csgp_head.specs.Head.{CsgpLaid};
 ghost use Rattle.table_csgp.specs.Rows.{rows_for};
 
-use base_fields::refusal::Refusal;
 use base_ids::{RECORD_NUMBERS, RowNumber};
 use table_csgp_head::{CsgpHead, first_pattern, pattern_at, patterns_behind};
 use table_patterns::run::run_at;
@@ -39,8 +38,7 @@ pub fn fill(s: &[u8], head: CsgpHead, rows: &mut [RowNumber])
                     put_row(rows, next.tail.rows - 1, next.tail.count, next.tail.index);
                     state = write_singly(s, pattern, next, rows);
                 }
-                Err(Refusal::RowCountOver) => return,
-                Err(Refusal::NoRecordLeft) => return,
+                Err(_) => return,
             }
         }
         tail = state.tail;

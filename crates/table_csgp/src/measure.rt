@@ -1,8 +1,9 @@
 // The replay of a payload's samples, to find its refusal and how many rows it makes.
 ghost use Rattle.std.specs.Prelude.{◌≡◌, length};
 ghost use Rattle.base_fields.specs.Answer.{given, and_then};
+ghost use Rattle.base_fields.specs.Refusal.{told_value};
 ghost use Rattle.table_csgp_head.specs.Head.{CsgpLaid};
-ghost use Rattle.table_csgp.specs.Rows.{rows_for, told_measured};
+ghost use Rattle.table_csgp.specs.Rows.{rows_for};
 
 use base_fields::refusal::Refusal;
 use table_csgp_head::{CsgpHead, first_pattern, pattern_at, patterns_behind};
@@ -14,9 +15,9 @@ use table_replay::step::{pattern_start, replay_step};
 // How many rows the samples fill, or the refusal of the first sample that cannot be entered.
 pub fn measure(s: &[u8], head: CsgpHead, room: usize) -> Result<usize, Refusal>
     requires { CsgpLaid s.now head }
-    ensures { told_measured result ≡ and_then (rows_for s.now room) (λ rows. given (length rows)) }
+    ensures { told_value result ≡ and_then (rows_for s.now room) (λ rows. given (length rows)) }
 {
-    let mut told: u32 = 0;
+    let mut told = Ok(());
     let mut tail = Tail {
         rows: 0,
         count: 0,
@@ -30,12 +31,8 @@ pub fn measure(s: &[u8], head: CsgpHead, room: usize) -> Result<usize, Refusal>
             let run = run_at(s, pattern, state.sample);
             match replay_step(pattern, state, run, room) {
                 Ok((next, _stood)) => state = enter_singly(s, pattern, next, room),
-                Err(Refusal::RowCountOver) => {
-                    told = 28;
-                    break 'replay;
-                }
-                Err(Refusal::NoRecordLeft) => {
-                    told = 29;
+                Err(refusal) => {
+                    told = Err(refusal);
                     break 'replay;
                 }
             }
@@ -43,8 +40,6 @@ pub fn measure(s: &[u8], head: CsgpHead, room: usize) -> Result<usize, Refusal>
         tail = state.tail;
         here = patterns_behind(head, here, pattern.length);
     }
-    if told != 0 {
-        return Err(told);
-    }
+    told?;
     Ok(tail.rows)
 }

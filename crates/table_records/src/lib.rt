@@ -3,21 +3,21 @@
 
 ghost use Rattle.std.specs.Prelude.{◌≡◌, length};
 ghost use Rattle.base_fields.specs.Answer.{given, and_then};
+ghost use Rattle.base_fields.specs.Refusal.{told_value};
 ghost use Rattle.table_rows.specs.Row.{Table, records_in, filled, rows_of_table};
-ghost use Rattle.table_csgp.specs.Rows.{told_measured};
 ghost use Rattle.table_runs.specs.Ahead.{LaidIn};
 ghost use Rattle.table_records.specs.Lent.{table_from};
 
 use base_fields::refusal::Refusal;
 use base_ids::RowNumber;
 use table_csgp::fill::fill;
-use table_csgp::measure::{measure};
+use table_csgp::measure::measure;
 use table_runs::SampleTable;
 
 // How many rows a table has, where that is within the room; or 28, 29.
 pub fn count_rows(s: &[u8], table: SampleTable, room: usize) -> Result<usize, Refusal>
     requires { LaidIn s.now table }
-    ensures { told_measured result ≡ and_then (table_from s.now table room) (λ t. given (length t.rows)) }
+    ensures { told_value result ≡ and_then (table_from s.now table room) (λ t. given (length t.rows)) }
 {
     match table {
         SampleTable::Rows(head) => {

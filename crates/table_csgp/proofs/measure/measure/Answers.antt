@@ -1,14 +1,17 @@
-use mathlib.Core.Path.{◌≡◌, refl, ap, sym, subst, ◌∙◌}
-use mathlib.Core.Logic.{◌⊎◌, inl, inr, ⊎_elim}
+use Rattle.std.specs.Prelude.{Result, Ok, Err}
+use mathlib.Core.Path.{◌≡◌, refl, ap, sym, subst}
 use Prim.Native.Nat.{ℕ, ◌<◌}
 use native.Mathlib.Omega.{arith}
 use mathlib.Core.List.{List, []}
 use lib.ListN.{length}
 use Rattle.base_fields.specs.Answer.{Answer, given, refused}
+use Rattle.base_fields.specs.Refusal.{number}
+use Rattle.base_fields.specs.declared.refusal.Refusal.{Refusal}
+use Rattle.base_fields.proofs.Handed.{handed}
 use Rattle.table_rows.specs.Row.{Row}
 use Rattle.table_patterns.specs.Place.{pattern_in}
 use Rattle.table_replay.specs.Step.{NextRun, GivesStep}
-use Rattle.table_replay.specs.declared.step.Stepped.{Stepped}
+use Rattle.table_replay.specs.declared.step.ReplayState.{ReplayState}
 use Rattle.table_replay.proofs.Stepping.{next-run}
 use Rattle.table_replay.proofs.Within.{Replaying, replaying-first, replaying-end, rows-standing, within_first, within-refused, within_step, within_end}
 use Rattle.table_csgp_head.specs.Head.{Whole}
@@ -17,7 +20,7 @@ use Rattle.table_csgp_head.proofs.Ahead.{ahead_step}
 use Rattle.table_csgp.specs.Rows.{rows_for}
 use Rattle.table_csgp.proofs.Ahead.{coming, Reached, rows-first, reached, none-coming}
 use Rattle.table_csgp.proofs.measure.measure.Goals as goal
-use Rattle.table_csgp.proofs.measure.measure.Goals.{After-pattern_at-pattern, After-patterns_behind-here, After-replay_step, After-run_at-run, Left-replay, else-replay-test, then-replay-test+then-loop-state-test+in-Over, then-replay-test+then-loop-state-test+in-Full}
+use Rattle.table_csgp.proofs.measure.measure.Goals.{After-pattern_at-pattern, After-patterns_behind-here, After-replay_step, After-run_at-run, Left-replay, else-replay-test, then-replay-test+then-loop-state-test+in-Err}
 
 -- the pattern that was read
 pattern-reached : (c : After-pattern_at-pattern) → (let a = c.args in Reached a.s.now a.head c.replay.here c.pattern_at-pattern.result)
@@ -32,7 +35,7 @@ abbrev Onward : After-patterns_behind-here → PatternsAt → Type 0
 Onward c here =
     let a = c.args in
     let i = c.loop-state in
-    Replaying (rows_for a.s.now a.room) a.room (coming a.s.now here) i.state.tail × Whole a.s.now here × (i.told ≡ 0)
+    Replaying (rows_for a.s.now a.room) a.room (coming a.s.now here) i.state.tail × Whole a.s.now here × (i.told-1 ≡ Ok tt)
 
 onward : (c : After-patterns_behind-here) → Onward c c.patterns_behind-here.result
 onward c =
@@ -50,20 +53,21 @@ next c =
     next-run _ _ _ r.stands c.run_at-run.ensures
 
 -- what the step told
-abbrev Told : After-replay_step → Stepped → Type 0
+abbrev Told : After-replay_step → Result (ReplayState × ℕ) Refusal → Type 0
 Told c r =
     let a = c.args in
     GivesStep (pattern_in a.s.now c.pattern_at-pattern.result) a.room c.loop-state.state r
 
-went : (c : After-replay_step) (r : Stepped) → c.replay_step.result ≡ r → Told c r
+went : (c : After-replay_step) (r : Result (ReplayState × ℕ) Refusal) → c.replay_step.result ≡ r → Told c r
 went c x e =
     let r : Reached c.args.s.now c.args.head c.replay.here c.pattern_at-pattern.result = reached _ _ _ _ c.requires.fixed c.replay-test.true c.replay.invariant.1 c.pattern_at-pattern.ensures in
     let n = next-run _ _ _ r.stands c.run_at-run.ensures in
-    subst (λ (x : Stepped). Told c x) e (c.replay_step.ensures _ n)
+    subst (λ (x : Result (ReplayState × ℕ) Refusal). Told c x) e (c.replay_step.ensures _ n)
 
 -- after the replay: all samples are entered, or what is told is the answer
-abbrev Done : Answer (List Row) → ℕ → ℕ → Type 0
-Done answer told rows = ((told ≡ 0) × ((out : List Row) × (answer ≡ given out) × (rows ≡ length out))) ⊎ ((0 < told) × (answer ≡ refused told))
+abbrev Done : Answer (List Row) → Result Unit Refusal → ℕ → Type 0
+Done answer (Ok x) rows = (out : List Row) × (answer ≡ given out) × (rows ≡ length out)
+Done answer (Err e) rows = answer ≡ refused (number e)
 
 done : (c : Left-replay) →
     (let a = c.args in Done (rows_for a.s.now a.room) c.replay-test.told c.replay.tail.rows)
@@ -73,17 +77,12 @@ done c =
     elim c.replay-test.branch [
       | else-replay-test w ↦
           let all : Replaying (rows_for a.s.now a.room) a.room [] c.replay.tail = rw (none-coming a.s.now c.replay.here w.replay-test.false) at i.0 in
-          inl (w.told-is ∙ i.2, (all.rows, replaying-end all, rows-standing all))
-      | then-replay-test+then-loop-state-test+in-Over w ↦
+          rw (w.told-is, i.2) (all.rows, replaying-end all, rows-standing all)
+      | then-replay-test+then-loop-state-test+in-Err w ↦
           let r : Reached a.s.now a.head c.replay.here w.pattern_at-pattern.result = reached _ _ _ _ c.requires.fixed w.replay-test.true c.replay.invariant.1 w.pattern_at-pattern.ensures in
           let n = next-run _ _ _ r.stands w.run_at-run.ensures in
-          let g = subst (λ (x : Stepped). GivesStep (pattern_in a.s.now w.pattern_at-pattern.result) a.room w.loop-state.state x) w.in-Over.is (w.replay_step.ensures _ n) in
-          inr (omega (arith, w.told-is), rw w.told-is (within-refused _ w.loop-state.invariant.0 g))
-      | then-replay-test+then-loop-state-test+in-Full w ↦
-          let r : Reached a.s.now a.head c.replay.here w.pattern_at-pattern.result = reached _ _ _ _ c.requires.fixed w.replay-test.true c.replay.invariant.1 w.pattern_at-pattern.ensures in
-          let n = next-run _ _ _ r.stands w.run_at-run.ensures in
-          let g = subst (λ (x : Stepped). GivesStep (pattern_in a.s.now w.pattern_at-pattern.result) a.room w.loop-state.state x) w.in-Full.is (w.replay_step.ensures _ n) in
-          inr (omega (arith, w.told-is), rw w.told-is (within-refused _ w.loop-state.invariant.0 g))
+          let g = subst (λ (x : Result (ReplayState × ℕ) Refusal). GivesStep (pattern_in a.s.now w.pattern_at-pattern.result) a.room w.loop-state.state x) w.in-Err.is (w.replay_step.ensures _ n) in
+          rw w.told-is (within-refused _ w.loop-state.invariant.0 g)
     ]
 
 pub replay-init : goal.replay-init
@@ -114,13 +113,13 @@ enter_singly-state-requires c = (pattern-reached (goal.at.enter_singly-state-req
 
 pub loop-state-smaller : goal.loop-state-smaller
 loop-state-smaller c =
-    let g = went (goal.at.loop-state-smaller c).After-replay_step _ c.in-Next.is in
+    let g = went (goal.at.loop-state-smaller c).After-replay_step _ c.in-Ok.is in
     omega (arith, g.some, g.within, c.enter_singly-state.ensures.onward)
 
 pub loop-state-preserved : goal.loop-state-preserved
 loop-state-preserved c =
     let i = c.loop-state.invariant in
-    (c.enter_singly-state.ensures.keeps _ _ (within_step _ i.0 (went (goal.at.loop-state-preserved c).After-replay_step _ c.in-Next.is)), i.1)
+    (c.enter_singly-state.ensures.keeps _ _ (within_step _ i.0 (went (goal.at.loop-state-preserved c).After-replay_step _ c.in-Ok.is)), i.1)
 
 pub patterns_behind-here-requires : goal.patterns_behind-here-requires
 patterns_behind-here-requires c =
@@ -132,8 +131,12 @@ replay-smaller c = fewer (goal.at.replay-smaller c).After-patterns_behind-here
 pub replay-preserved : goal.replay-preserved
 replay-preserved c = onward (goal.at.replay-preserved c).After-patterns_behind-here
 
-pub returns-then-told-ne0 : goal.returns-then-told-ne0
-returns-then-told-ne0 c = ⊎_elim (λ w. absurd (c.if-told-ne0.true w.0)) (λ w. rw w.1) (done (goal.at.returns-then-told-ne0 c).Left-replay)
+pub returns-in_err-told : goal.returns-in_err-told
+returns-in_err-told c =
+    let stopped = rw c.in_err-told.was at (done (goal.at.returns-in_err-told c).Left-replay) in
+    rw (handed c.from_residual.ensures, stopped) refl
 
 pub returns : goal.returns
-returns c = ⊎_elim (λ w. rw (w.1.1, w.1.2)) (λ w. absurd (omega (arith, w.0, c.if-told-ne0.false))) (done (goal.at.returns c).Left-replay)
+returns c =
+    let all = rw c.in_ok-told.was at (done (goal.at.returns c).Left-replay) in
+    rw all.1 (ap given all.2)
