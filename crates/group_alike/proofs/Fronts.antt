@@ -6,18 +6,20 @@ use Prim.Native.Nat.{ℕ, ◌<◌, ◌≤◌}
 use native.Mathlib.Nat.{le_refl}
 use lib.IntN.{ℤ}
 use lib.ListN.{length}
+use Rattle.std.specs.Prelude.{Result}
+use Rattle.base_fields.specs.declared.refusal.Refusal.{Refusal}
 use borrow.Author.Tests.{lt-ltb, le-ltb}
 use Rattle.base_fields.specs.Answer.{Answer, given, refused, and_then, within, input_limit}
 use Rattle.base_fields.proofs.Answers.{given_inj, given-first, within-short, and_then_assoc}
 use Rattle.group_entries.specs.Decoded.{Decoded, Rap as RapFields, Sap as SapFields, Rash as RashFields, Alst as AlstFields, roll_of, rap_of, tele_of, sap_of, rash_of, alst_of, raw_of, decode_roll, decode_rap, decode_tele, decode_sap, decode_rash, decode_alst, point_at, offset_at, pair_at, up_to}
 use Rattle.group_entries.specs.Layout.{decode_as}
 use Rattle.group_entries.specs.Told.{told_roll, told_rap, told_tele, told_sap, told_rash, told_alst}
-use Rattle.group_entries.specs.declared.DecodedRoll.{DecodedRoll}
-use Rattle.group_entries.specs.declared.DecodedRap.{DecodedRap}
-use Rattle.group_entries.specs.declared.DecodedTele.{DecodedTele}
-use Rattle.group_entries.specs.declared.DecodedSap.{DecodedSap}
-use Rattle.group_entries.specs.declared.DecodedRash.{DecodedRash}
-use Rattle.group_entries.specs.declared.DecodedAlst.{DecodedAlst}
+use Rattle.group_entries.specs.declared.RollRecovery.{RollRecovery}
+use Rattle.group_entries.specs.declared.VisualRandomAccess.{VisualRandomAccess}
+use Rattle.group_entries.specs.declared.TemporalLevel.{TemporalLevel}
+use Rattle.group_entries.specs.declared.StreamAccessPoint.{StreamAccessPoint}
+use Rattle.group_entries.specs.declared.RateShare.{RateShare}
+use Rattle.group_entries.specs.declared.AlternativeStartup.{AlternativeStartup}
 use Rattle.group_entries.specs.declared.EntryLayout.{EntryLayout}
 use Rattle.group_entries.specs.declared.EntryLayout.TheVariants.{Roll, Rap, Tele, Sap, Rash, Alst, Raw}
 use Rattle.group_entries.proofs.Values.{value_of, Sized, valued}
@@ -32,14 +34,14 @@ pub record Decoder : Type 1 where
   pub make : List ℕ → Value → Decoded
 
 abbrev pub decoder_of : EntryLayout → Decoder
-decoder_of Roll = record { Returned = DecodedRoll; Value = ℤ; told = told_roll; decoded = decode_roll; make = λ s. roll_of }
-decoder_of Rap = record { Returned = DecodedRap; Value = RapFields; told = told_rap; decoded = decode_rap; make = λ s. rap_of }
-decoder_of Tele = record { Returned = DecodedTele; Value = Bool; told = told_tele; decoded = decode_tele; make = λ s. tele_of }
-decoder_of Sap = record { Returned = DecodedSap; Value = SapFields; told = told_sap; decoded = decode_sap; make = λ s. sap_of }
+decoder_of Roll = record { Returned = Result RollRecovery Refusal; Value = ℤ; told = told_roll; decoded = decode_roll; make = λ s. roll_of }
+decoder_of Rap = record { Returned = Result VisualRandomAccess Refusal; Value = RapFields; told = told_rap; decoded = decode_rap; make = λ s. rap_of }
+decoder_of Tele = record { Returned = Result TemporalLevel Refusal; Value = Bool; told = told_tele; decoded = decode_tele; make = λ s. tele_of }
+decoder_of Sap = record { Returned = Result StreamAccessPoint Refusal; Value = SapFields; told = told_sap; decoded = decode_sap; make = λ s. sap_of }
 decoder_of Rash =
-    record { Returned = DecodedRash; Value = RashFields; told = told_rash; decoded = decode_rash; make = λ s r. rash_of r (up_to (point_at s) 0 r.points) }
+    record { Returned = Result RateShare Refusal; Value = RashFields; told = told_rash; decoded = decode_rash; make = λ s r. rash_of r (up_to (point_at s) 0 r.points) }
 decoder_of Alst =
-    record { Returned = DecodedAlst; Value = AlstFields; told = told_alst; decoded = decode_alst; make = λ s a. alst_of a (up_to (offset_at s) 0 a.roll_count_of) (up_to (pair_at s) 0 a.pairs) }
+    record { Returned = Result AlternativeStartup Refusal; Value = AlstFields; told = told_alst; decoded = decode_alst; make = λ s a. alst_of a (up_to (offset_at s) 0 a.roll_count_of) (up_to (pair_at s) 0 a.pairs) }
 decoder_of Raw = record { Returned = List ℕ; Value = List ℕ; told = given; decoded = given; make = λ s. raw_of }
 
 made_by : (l : EntryLayout) (s : List ℕ) → decode_as l s ≡ and_then ((decoder_of l).decoded s) (λ u. given ((decoder_of l).make s u))

@@ -1,15 +1,8 @@
 -- Whether two entries of one grouping type decode to the same value.
-use Rattle.std.specs.Prelude.{ℕ, Bool, true, false, List}
-use Rattle.base_fields.specs.Answer.{Answer, given, refused, and_then, within}
+use Rattle.std.specs.Prelude.{ℕ, Bool, List}
+use Rattle.base_fields.specs.Answer.{Answer, given, and_then, within}
 use Rattle.group_entries.specs.Layout.{decode}
 use Rattle.group_entries.specs.Same.{same_decoded, is_same}
-use Rattle.group_alike.specs.declared.Alike.{Alike}
-use Rattle.group_alike.specs.declared.Alike.TheVariants.{Same, Different, Refused}
-
-abbrev pub told_alike : Alike → Answer Bool
-told_alike Same = given true
-told_alike Different = given false
-told_alike (Refused n) = refused n
 
 -- 55 of either entry first, then the first entry's refusals, then the second's; then whether the two values are the same
 unfoldable pub alike : ℕ → List ℕ → List ℕ → Answer Bool

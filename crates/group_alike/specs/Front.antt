@@ -1,16 +1,14 @@
 -- The bytes at the front of an entry that decide its value, which of their bits, and likeness by layout.
-use Rattle.std.specs.Prelude.{ℕ, zero, suc, ◌+◌, ◌*◌, ◌/◌, ◌%◌, ◌<◌, ◌≤◌, ◌≡◌, Bool, true, false, List, length, get_or}
+use Rattle.std.specs.Prelude.{ℕ, zero, suc, ◌+◌, ◌*◌, ◌/◌, ◌%◌, ◌<◌, ◌≤◌, ◌≡◌, Bool, true, false, List, Result, Ok, Err, length, get_or}
 use Rattle.base_fields.specs.Answer.{Answer, given, refused, and_then}
 use Rattle.base_fields.specs.Number.{be_at}
+use Rattle.base_fields.specs.Refusal.{number}
+use Rattle.base_fields.specs.declared.refusal.Refusal.{Refusal}
 use Rattle.group_entries.specs.Decoded.{points_end}
 use Rattle.group_entries.specs.Layout.{decode_as}
 use Rattle.group_entries.specs.Same.{same_decoded, is_same}
 use Rattle.group_entries.specs.declared.EntryLayout.{EntryLayout}
 use Rattle.group_entries.specs.declared.EntryLayout.TheVariants.{Roll, Rap, Tele, Sap, Rash, Alst, Raw}
-use Rattle.group_alike.specs.declared.Front as front
-use Rattle.group_alike.specs.declared.Front.TheVariants.{Bytes, Refused}
-use Rattle.group_alike.specs.declared.Likeness.{Likeness}
-use Rattle.group_alike.specs.declared.Likeness.TheVariants as likeness
 use Rattle.group_alike.specs.declared.Left.{Left}
 use Rattle.group_alike.specs.declared.Left.TheVariants as left
 
@@ -33,10 +31,6 @@ significant_of Rap x = x
 significant_of Rash x = x
 significant_of Alst x = x
 significant_of Raw x = x
-
-abbrev pub told_front_size : front.Front → Answer ℕ
-told_front_size (Bytes n) = given n
-told_front_size (Refused n) = refused n
 
 -- the front's length, or the decoder's refusal
 abbrev pub FrontIs : Answer ℕ → EntryLayout → List ℕ → Type 0
@@ -90,11 +84,7 @@ pub record Decides (l : EntryLayout) (a b : List ℕ) (n : ℕ) : Type 0 where
   pub different : (Over a b 0 n → ⊥) → given false ≡ alike_as l a b
 
 -- what is left to compare is enough for the answer
-abbrev pub LeftOf : EntryLayout → List ℕ → List ℕ → Left → Type 0
-LeftOf l a b (left.Told same) = given same ≡ alike_as l a b
-LeftOf l a b (left.Refused n) = refused n ≡ alike_as l a b
-LeftOf l a b (left.Bytes n) = Decides l a b n
-
-abbrev pub told_likeness : Likeness → Answer Bool
-told_likeness (likeness.Told same) = given same
-told_likeness (likeness.Refused n) = refused n
+abbrev pub LeftOf : EntryLayout → List ℕ → List ℕ → Result Left Refusal → Type 0
+LeftOf l a b (Ok (left.Told same)) = given same ≡ alike_as l a b
+LeftOf l a b (Ok (left.Bytes n)) = Decides l a b n
+LeftOf l a b (Err e) = refused (number e) ≡ alike_as l a b

@@ -3,69 +3,63 @@
 
 ghost use Rattle.std.specs.Prelude.{◌≡◌, ℕ, ◌+◌, ◌≤◌, eqb, length};
 ghost use Rattle.base_fields.specs.Answer.{given, and_then, input_limit};
-ghost use Rattle.group_alike.specs.Front.{AllBytes, low_first, significant_of, GivesSame, ZeroWhereSame, Short, LeftOf, FrontIs, front_size, told_front_size, told_likeness};
+ghost use Rattle.base_fields.specs.Refusal.{told_value};
+ghost use Rattle.group_alike.specs.Front.{AllBytes, low_first, significant_of, GivesSame, ZeroWhereSame, Short, LeftOf, FrontIs, front_size};
 ghost use Rattle.group_entries.specs.Layout.{decode_as};
 ghost use Rattle.group_entries.specs.declared.EntryLayout.TheVariants.{Roll, Rash, Alst};
-ghost use Rattle.group_alike.specs.Alike.{told_alike, alike};
+ghost use Rattle.group_alike.specs.Alike.{alike};
 
 use base_fields::refusal::Refusal;
 use base_fields::{INPUT_LIMIT, read_u8, read_u32};
-use group_entries::{
-    EntryLayout,
-};
+use group_entries::EntryLayout;
 
 // What two entries of a layout still have to be compared by: nothing, or so many bytes at the front of both.
 #[derive(Clone, Copy)]
 enum Left {
     Told(bool),
-    Refused(u32),
     Bytes(usize),
 }
 
 // The front of a rash: its points and what stands behind them.
 fn rash_front(s: &[u8]) -> Result<usize, Refusal>
     requires { length s.now ≤ input_limit }
-    ensures { FrontIs (told_front_size result) Rash s.now }
+    ensures { FrontIs (told_value result) Rash s.now }
 {
-    match group_entries::decode_rash(s) {
-        Ok(v) => Ok(group_entries::rash_points_end(v.operation_point_count) + 9),
-        Err(n) => Err(n),
-    }
+    let rash = group_entries::decode_rash(s)?;
+    Ok(group_entries::rash_points_end(rash.operation_point_count) + 9)
 }
 
 // The front of an alst: all of it.
 fn alst_front(s: &[u8]) -> Result<usize, Refusal>
     requires { length s.now ≤ input_limit }
-    ensures { FrontIs (told_front_size result) Alst s.now }
+    ensures { FrontIs (told_value result) Alst s.now }
 {
-    match group_entries::decode_alst(s) {
-        Ok(_) => Ok(s.len()),
-        Err(n) => Err(n),
-    }
+    group_entries::decode_alst(s)?;
+    Ok(s.len())
 }
 
 // The front of an entry by its layout's decoder.
 pub fn front_of(layout: EntryLayout, s: &[u8]) -> Result<usize, Refusal>
     requires { length s.now ≤ input_limit }
-    ensures { told_front_size result ≡ and_then (decode_as layout s.now) (λ v. given (front_size layout s.now)) }
+    ensures { told_value result ≡ and_then (decode_as layout s.now) (λ v. given (front_size layout s.now)) }
 {
     match layout {
-        EntryLayout::Roll => match group_entries::decode_roll(s) {
-            Ok(_) => Ok(2),
-            Err(n) => Err(n),
-        },
-        EntryLayout::Rap => match group_entries::decode_rap(s) {
-            Ok(_) => Ok(1),
-            Err(n) => Err(n),
-        },
-        EntryLayout::Tele => match group_entries::decode_tele(s) {
-            Ok(_) => Ok(1),
-            Err(n) => Err(n),
-        },
-        EntryLayout::Sap => match group_entries::decode_sap(s) {
-            Ok(_) => Ok(1),
-            Err(n) => Err(n),
-        },
+        EntryLayout::Roll => {
+            group_entries::decode_roll(s)?;
+            Ok(2)
+        }
+        EntryLayout::Rap => {
+            group_entries::decode_rap(s)?;
+            Ok(1)
+        }
+        EntryLayout::Tele => {
+            group_entries::decode_tele(s)?;
+            Ok(1)
+        }
+        EntryLayout::Sap => {
+            group_entries::decode_sap(s)?;
+            Ok(1)
+        }
         EntryLayout::Rash => rash_front(s),
         EntryLayout::Alst => alst_front(s),
         EntryLayout::Raw => Ok(s.len()),
@@ -212,74 +206,72 @@ fn same_byte(layout: EntryLayout, x: u8, y: u8) -> bool
 }
 
 // Entries of one byte.
-fn byte_left(layout: EntryLayout, a: &[u8], b: &[u8]) -> Left
+fn byte_left(layout: EntryLayout, a: &[u8], b: &[u8]) -> Result<Left, Refusal>
     requires { Short layout 1 }
     ensures { LeftOf layout a.now b.now result }
 {
     if a.len() < 1 {
-        return Left::Refused(40);
+        return Err(Refusal::ShortEntry);
     }
     if b.len() < 1 {
-        return Left::Refused(40);
+        return Err(Refusal::ShortEntry);
     }
-    Left::Told(same_byte(layout, a[0], b[0]))
+    Ok(Left::Told(same_byte(layout, a[0], b[0])))
 }
 
 // Entries of two bytes.
-fn roll_left(a: &[u8], b: &[u8]) -> Left
+fn roll_left(a: &[u8], b: &[u8]) -> Result<Left, Refusal>
     ensures { LeftOf Roll a.now b.now result }
 {
     if a.len() < 2 {
-        return Left::Refused(40);
+        return Err(Refusal::ShortEntry);
     }
     if b.len() < 2 {
-        return Left::Refused(40);
+        return Err(Refusal::ShortEntry);
     }
     if a[0] != b[0] {
-        return Left::Told(false);
+        return Ok(Left::Told(false));
     }
-    Left::Told(a[1] == b[1])
+    Ok(Left::Told(a[1] == b[1]))
 }
 
 // Entries of a layout that reads all bits of its front: the first one's front has m bytes.
-fn second_left(layout: EntryLayout, a: &[u8], b: &[u8], m: usize, front: Result<usize, Refusal>) -> Left
-    requires { (AllBytes a.now) × (AllBytes b.now) × (FrontIs (given m) layout a.now) × (FrontIs (told_front_size front) layout b.now) × ((x : ℕ) → significant_of layout x ≡ x) }
+fn second_left(
+    layout: EntryLayout,
+    a: &[u8],
+    b: &[u8],
+    m: usize,
+    front: Result<usize, Refusal>,
+) -> Result<Left, Refusal>
+    requires { (AllBytes a.now) × (AllBytes b.now) × (FrontIs (given m) layout a.now) × (FrontIs (told_value front) layout b.now) × ((x : ℕ) → significant_of layout x ≡ x) }
     ensures { LeftOf layout a.now b.now result }
 {
-    match front {
-        Err(code) => Left::Refused(code),
-        Ok(n) => {
-            if m == n {
-                Left::Bytes(n)
-            } else {
-                Left::Told(false)
-            }
-        }
+    let n = front?;
+    if m == n {
+        Ok(Left::Bytes(n))
+    } else {
+        Ok(Left::Told(false))
     }
 }
 
-fn rash_left(a: &[u8], b: &[u8]) -> Left
+fn rash_left(a: &[u8], b: &[u8]) -> Result<Left, Refusal>
     requires { (length a.now ≤ input_limit) × (length b.now ≤ input_limit) }
     ensures { LeftOf Rash a.now b.now result }
 {
-    match rash_front(a) {
-        Err(code) => Left::Refused(code),
-        Ok(m) => second_left(EntryLayout::Rash, a, b, m, rash_front(b)),
-    }
+    let m = rash_front(a)?;
+    second_left(EntryLayout::Rash, a, b, m, rash_front(b))
 }
 
-fn alst_left(a: &[u8], b: &[u8]) -> Left
+fn alst_left(a: &[u8], b: &[u8]) -> Result<Left, Refusal>
     requires { (length a.now ≤ input_limit) × (length b.now ≤ input_limit) }
     ensures { LeftOf Alst a.now b.now result }
 {
-    match alst_front(a) {
-        Err(code) => Left::Refused(code),
-        Ok(m) => second_left(EntryLayout::Alst, a, b, m, alst_front(b)),
-    }
+    let m = alst_front(a)?;
+    second_left(EntryLayout::Alst, a, b, m, alst_front(b))
 }
 
 // Each layout has code of its own, so that the compiler branches once, on the type.
-fn left_of(layout: EntryLayout, a: &[u8], b: &[u8]) -> Left
+fn left_of(layout: EntryLayout, a: &[u8], b: &[u8]) -> Result<Left, Refusal>
     requires { (length a.now ≤ input_limit) × (length b.now ≤ input_limit) }
     ensures { LeftOf layout a.now b.now result }
 {
@@ -294,9 +286,9 @@ fn left_of(layout: EntryLayout, a: &[u8], b: &[u8]) -> Left
     }
 }
 
-// The answer of `decode_alike` with a truth value, which a caller hands on without a branch.
+// Whether the two decode to the same value.
 pub fn likeness_of(grouping_type: u32, a: &[u8], b: &[u8]) -> Result<bool, Refusal>
-    ensures { told_likeness result ≡ alike grouping_type a.now b.now }
+    ensures { told_value result ≡ alike grouping_type a.now b.now }
 {
     if INPUT_LIMIT < a.len() {
         return Err(Refusal::InputTooLong);
@@ -304,18 +296,16 @@ pub fn likeness_of(grouping_type: u32, a: &[u8], b: &[u8]) -> Result<bool, Refus
     if INPUT_LIMIT < b.len() {
         return Err(Refusal::InputTooLong);
     }
-    match left_of(group_entries::layout_of(grouping_type), a, b) {
+    let left = left_of(group_entries::layout_of(grouping_type), a, b)?;
+    match left {
         Left::Told(same) => Ok(same),
-        Left::Refused(code) => Err(code),
         Left::Bytes(n) => Ok(same_bytes(a, b, n)),
     }
 }
 
+// The same.
 pub fn decode_alike(grouping_type: u32, a: &[u8], b: &[u8]) -> Result<bool, Refusal>
-    ensures { told_alike result ≡ alike grouping_type a.now b.now }
+    ensures { told_value result ≡ alike grouping_type a.now b.now }
 {
-    match likeness_of(grouping_type, a, b) {
-        Ok(same) => { if same { Ok(true) } else { Ok(false) } }
-        Err(n) => Err(n),
-    }
+    likeness_of(grouping_type, a, b)
 }

@@ -3,6 +3,7 @@ use mathlib.Core.Path.{◌≡◌, refl}
 use Rattle.base_fields.specs.Answer.{given, and_then, within}
 use Rattle.group_entries.specs.declared.EntryLayout.{EntryLayout}
 use Rattle.group_entries.specs.declared.EntryLayout.TheVariants.{Roll, Rap, Tele, Sap}
+use Rattle.group_entries.proofs.Front.{handed}
 use Rattle.group_alike.specs.Front.{FrontIs, front_size}
 use Rattle.group_alike.proofs.Fronts.{decoder_of, front-told}
 use Rattle.group_alike.proofs.front_of.Goals as goal
@@ -13,29 +14,29 @@ arm : (m : EntryLayout) (c : Start) {y r : (decoder_of m).Returned} → c.args.l
     (decoder_of m).told y ≡ within s ((decoder_of m).decoded s) → y ≡ r → FrontIs (and_then ((decoder_of m).told r) (λ u. given (front_size m s))) c.args.layout s
 arm m c p e q = front-told m _ c.requires p e q
 
-pub returns-in-Roll-decode_roll : goal.returns-in-Roll-decode_roll
-returns-in-Roll-decode_roll c = arm Roll (goal.at.returns-in-Roll-decode_roll c).Start c.in-Roll.is c.decode_roll.ensures c.in-Roll-decode_roll.is
+pub returns-in_ok-decode_roll-in-Roll : goal.returns-in_ok-decode_roll-in-Roll
+returns-in_ok-decode_roll-in-Roll c = arm Roll (goal.at.returns-in_ok-decode_roll-in-Roll c).Start c.in-Roll.is c.decode_roll.ensures c.in_ok-decode_roll-in-Roll.was
 
-pub returns-in-Refused : goal.returns-in-Refused
-returns-in-Refused c = arm Roll (goal.at.returns-in-Refused c).Start c.in-Roll.is c.decode_roll.ensures c.in-Refused.is
+pub returns-in_err-decode_roll-in-Roll : goal.returns-in_err-decode_roll-in-Roll
+returns-in_err-decode_roll-in-Roll c = rw (handed c.from_residual.ensures) (arm Roll (goal.at.returns-in_err-decode_roll-in-Roll c).Start c.in-Roll.is c.decode_roll.ensures c.in_err-decode_roll-in-Roll.was)
 
-pub returns-in-Rap-decode_rap : goal.returns-in-Rap-decode_rap
-returns-in-Rap-decode_rap c = arm Rap (goal.at.returns-in-Rap-decode_rap c).Start c.in-Rap.is c.decode_rap.ensures c.in-Rap-decode_rap.is
+pub returns-in_ok-decode_rap-in-Rap : goal.returns-in_ok-decode_rap-in-Rap
+returns-in_ok-decode_rap-in-Rap c = arm Rap (goal.at.returns-in_ok-decode_rap-in-Rap c).Start c.in-Rap.is c.decode_rap.ensures c.in_ok-decode_rap-in-Rap.was
 
-pub returns-in-Refused-decode_rap : goal.returns-in-Refused-decode_rap
-returns-in-Refused-decode_rap c = arm Rap (goal.at.returns-in-Refused-decode_rap c).Start c.in-Rap.is c.decode_rap.ensures c.in-Refused-decode_rap.is
+pub returns-in_err-decode_rap-in-Rap : goal.returns-in_err-decode_rap-in-Rap
+returns-in_err-decode_rap-in-Rap c = rw (handed c.from_residual-in_err-decode_rap-in-Rap.ensures) (arm Rap (goal.at.returns-in_err-decode_rap-in-Rap c).Start c.in-Rap.is c.decode_rap.ensures c.in_err-decode_rap-in-Rap.was)
 
-pub returns-in-Tele-decode_tele : goal.returns-in-Tele-decode_tele
-returns-in-Tele-decode_tele c = arm Tele (goal.at.returns-in-Tele-decode_tele c).Start c.in-Tele.is c.decode_tele.ensures c.in-Tele-decode_tele.is
+pub returns-in_ok-decode_tele-in-Tele : goal.returns-in_ok-decode_tele-in-Tele
+returns-in_ok-decode_tele-in-Tele c = arm Tele (goal.at.returns-in_ok-decode_tele-in-Tele c).Start c.in-Tele.is c.decode_tele.ensures c.in_ok-decode_tele-in-Tele.was
 
-pub returns-in-Refused-decode_tele : goal.returns-in-Refused-decode_tele
-returns-in-Refused-decode_tele c = arm Tele (goal.at.returns-in-Refused-decode_tele c).Start c.in-Tele.is c.decode_tele.ensures c.in-Refused-decode_tele.is
+pub returns-in_err-decode_tele-in-Tele : goal.returns-in_err-decode_tele-in-Tele
+returns-in_err-decode_tele-in-Tele c = rw (handed c.from_residual-in_err-decode_tele-in-Tele.ensures) (arm Tele (goal.at.returns-in_err-decode_tele-in-Tele c).Start c.in-Tele.is c.decode_tele.ensures c.in_err-decode_tele-in-Tele.was)
 
-pub returns-in-Sap-decode_sap : goal.returns-in-Sap-decode_sap
-returns-in-Sap-decode_sap c = arm Sap (goal.at.returns-in-Sap-decode_sap c).Start c.in-Sap.is c.decode_sap.ensures c.in-Sap-decode_sap.is
+pub returns-in_ok-decode_sap-in-Sap : goal.returns-in_ok-decode_sap-in-Sap
+returns-in_ok-decode_sap-in-Sap c = arm Sap (goal.at.returns-in_ok-decode_sap-in-Sap c).Start c.in-Sap.is c.decode_sap.ensures c.in_ok-decode_sap-in-Sap.was
 
-pub returns-in-Refused-decode_sap : goal.returns-in-Refused-decode_sap
-returns-in-Refused-decode_sap c = arm Sap (goal.at.returns-in-Refused-decode_sap c).Start c.in-Sap.is c.decode_sap.ensures c.in-Refused-decode_sap.is
+pub returns-in_err-decode_sap-in-Sap : goal.returns-in_err-decode_sap-in-Sap
+returns-in_err-decode_sap-in-Sap c = rw (handed c.from_residual-in_err-decode_sap-in-Sap.ensures) (arm Sap (goal.at.returns-in_err-decode_sap-in-Sap c).Start c.in-Sap.is c.decode_sap.ensures c.in_err-decode_sap-in-Sap.was)
 
 pub returns-in-Rash : goal.returns-in-Rash
 returns-in-Rash c = rw c.in-Rash.is c.rash_front.ensures

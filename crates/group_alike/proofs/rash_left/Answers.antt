@@ -1,7 +1,8 @@
 -- The first front, then the second by `second_left`.
 use mathlib.Core.Path.{refl, ap, sym, ◌∙◌}
 use Rattle.group_entries.specs.declared.EntryLayout.TheVariants.{Rash}
-use Rattle.group_alike.specs.Front.{told_front_size}
+use Rattle.base_fields.specs.Refusal.{told_value}
+use Rattle.group_entries.proofs.Front.{handed}
 use Rattle.group_alike.proofs.Pairs.{first-refused}
 use Rattle.group_alike.proofs.rash_left.Goals as goal
 
@@ -9,10 +10,10 @@ pub second_left-requires : goal.second_left-requires
 second_left-requires c = (
   λ k. (c.type_inv.a k).fits,
   λ k. (c.type_inv.b k).fits,
-  ap told_front_size (sym c.in-Bytes.is) ∙ c.rash_front.ensures,
-  c.rash_front-in-Bytes.ensures,
+  ap told_value (sym c.in_ok-m.was) ∙ c.rash_front.ensures,
+  c.rash_front-2.ensures,
   λ x. refl,
 )
 
-pub returns-in-Refused : goal.returns-in-Refused
-returns-in-Refused c = first-refused Rash _ _ (ap told_front_size (sym c.in-Refused.is) ∙ c.rash_front.ensures)
+pub returns-in_err-m : goal.returns-in_err-m
+returns-in_err-m c = rw (handed c.from_residual.ensures) (first-refused Rash _ _ (ap told_value (sym c.in_err-m.was) ∙ c.rash_front.ensures))
