@@ -17,10 +17,8 @@ fn put_offsets(entry: &[u8], count: usize, out: &mut [u8], at: usize) -> usize
     ensures { PutsWithin (5 * count) (each groups (up_to (offset_at entry.now) 0 count)) at out.old out.new result }
 {
     let mut place = at;
-    let mut k: usize = 0;
-    while k < count {
+    for k in 0..count {
         place = put_u32(entry, 4 + 4 * k, out, place);
-        k = k + 1;
     }
     place
 }
@@ -31,13 +29,11 @@ fn put_pairs(entry: &[u8], from: usize, count: usize, out: &mut [u8], at: usize)
     ensures { PutsWithin (6 * count) (each pair_bytes (up_to (pair_at entry.now) 0 count)) at out.old out.new result }
 {
     let mut place = at;
-    let mut k: usize = 0;
-    while k < count {
+    for k in 0..count {
         let pair = from + 4 * k;
         let output = base_fields::read_u16(entry, pair);
         let total = base_fields::read_u16(entry, pair + 2);
         place = put_two(out, place, output as u64, total as u64);
-        k = k + 1;
     }
     place
 }

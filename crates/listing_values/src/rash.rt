@@ -28,12 +28,9 @@ fn put_points(entry: &[u8], count: u16, out: &mut [u8], at: usize) -> usize
     requires { (count ≡ point_count entry.now) × (points_end entry.now + 9 ≤ length entry.now) × (at + value_limit < place_bound) }
     ensures { PutsWithin (8 * count) (each point_bytes (up_to (point_at entry.now) 0 count)) at out.old out.new result }
 {
-    let n = count as usize;
     let mut place = at;
-    let mut k: usize = 0;
-    while k < n {
+    for k in 0..count as usize {
         place = put_point(entry, count, k, out, place);
-        k = k + 1;
     }
     place
 }

@@ -17,10 +17,8 @@ fn put_bytes(entry: &[u8], out: &mut [u8], at: usize) -> usize
         return at + entry.len();
     }
     let mut place = at;
-    let mut k: usize = 0;
-    while k < entry.len() {
-        place = put_byte(out, place, entry[k]);
-        k = k + 1;
+    for byte in entry {
+        place = put_byte(out, place, *byte);
     }
     place
 }

@@ -1,7 +1,5 @@
 -- The invariant: the offsets passed are put.
-use mathlib.Core.Path.{◌≡◌}
-use Prim.Native.Nat.{◌-◌, ◌*◌, ◌≤◌}
-use lib.ListN.{length}
+use Prim.Native.Nat.{◌*◌}
 use Rattle.group_entries.specs.Decoded.{offset_at, up_to}
 use Rattle.listing_theorem.specs.Groups.{groups}
 use Rattle.listing_theorem.specs.Listing.{each}
@@ -9,7 +7,4 @@ use Rattle.listing_values.specs.Parts.{PutsWithin}
 use Rattle.listing_values.proofs.alst.put_offsets.Given as goal
 
 abbrev pub invariant-loop-k : goal.invariant-loop-k
-invariant-loop-k l = (l.k ≤ l.count) × (length l.out ≡ length l.initial.out) × PutsWithin (5 * l.k) (each groups (up_to (offset_at l.entry) 0 l.k)) l.at l.initial.out l.out l.place
-
-abbrev pub decreases-loop-k : goal.decreases-loop-k
-decreases-loop-k l = l.count - l.k
+invariant-loop-k l = PutsWithin (5 * l.k) (each groups (up_to (offset_at l.entry) 0 l.k)) l.at l.initial.out l.out l.place
