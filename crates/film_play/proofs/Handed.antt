@@ -6,10 +6,10 @@ use mathlib.Core.Bool.{Bool, true, false}
 use mathlib.Core.List.{List, [], ◌∷◌}
 use lib.ListN.{length}
 use lib.Seq.{sets}
+use Rattle.std.specs.Prelude.{Ok}
 use Rattle.base_fields.specs.Answer as answer
 use Rattle.base_fields.specs.Answer.{Answer, given, refused}
 use Rattle.base_ids.specs.declared.DescriptionIndex.{DescriptionIndex}
-use Rattle.table_rows.specs.declared.Found.TheVariants as found
 use Rattle.table_play_head.specs.Head.{Played, fresh_head}
 use Rattle.table_play_head.specs.Turn.{GivesTurn, GivesMove}
 use Rattle.table_play_head.specs.declared.PlayHead.{PlayHead}
@@ -46,7 +46,7 @@ told_is {told} {h} {t} g = by told g
     by (refused n) g = rw g.found refl
 
 -- an index is handed out with its head
-pub hands_index : {head head' out : List ℕ} (t : Turn) {i : DescriptionIndex} → t.found ≡ found.Index i → head' ≡ sets head 0 (head_numbers t.head)
+pub hands_index : {head head' out : List ℕ} (t : Turn) {i : DescriptionIndex} → t.found ≡ Ok i → head' ≡ sets head 0 (head_numbers t.head)
     → GivesPlay (told_played t) head head' out (sets out 0 (i.0 ∷ [])) 0
 hands_index t e q = rw e (record { returned = record { status = refl; out = refl }; left = q })
 
