@@ -8,9 +8,8 @@ ghost use Rattle.atom_tree.specs.Told.{size_of, parent_end, told_header, told_ch
 ghost use Rattle.film_status.specs.Status.{Returns, body_numbers};
 ghost use Rattle.film_atoms.specs.Atoms.{absent, or_zero, end_from, header_numbers, child_numbers};
 
+use atom_tree::{AtomHeader, BodyAt, Child};
 use base_fields::refusal::Refusal;
-use atom_tree::BodyAt;
-use atom_tree::Child;
 use film_status::NONE;
 
 fn open_flag(size: Option<u64>) -> u64
@@ -34,11 +33,7 @@ fn size_or_zero(size: Option<u64>) -> u64
 fn parent_end(known: u32, end: u64) -> Option<u64>
     ensures { parent_end result ≡ end_from known end }
 {
-    if known == 0 {
-        None
-    } else {
-        Some(end)
-    }
+    (known != 0).then_some(end)
 }
 
 // Hands a header out.
