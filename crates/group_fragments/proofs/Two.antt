@@ -18,10 +18,6 @@ film_first (given e) y = and_then y (λ d. given (record { local = false; span =
 film_first none y = and_then y (λ d. none)
 film_first (refused n) y = refused n
 
--- the whole of the film's payload, then the fragment's entry
-abbrev pub fragment_last : Answer Description → Answer Span → Answer Part
-fragment_last x y = and_then x (λ d. and_then y (λ e. given (record { local = true; span = e })))
-
 module _ (film fragment : List ℕ) (i : ℕ) where
   later : (a : Answer Span) → Unrefused a → film_first a (parse_sgpd fragment) ≡ and_then (sgpd fragment) (λ own. and_then a (λ e. given (record { local = false; span = e })))
   later (given e) u = and_then_assoc (sgpd fragment) _ _
@@ -37,10 +33,6 @@ module _ (film fragment : List ℕ) (i : ℕ) where
   pub film-first : {a : Answer Span} {b : Answer Description} → a ≡ entry_at film i → b ≡ parse_sgpd fragment →
       film_first a b ≡ and_then (sgpd film) (λ wide. and_then (sgpd fragment) (λ own. part_in false wide i))
   film-first e f = rw (e, f) (first (sgpd film) (sgpd-settled film))
-
-  pub fragment-last : {a : Answer Description} {b : Answer Span} → a ≡ parse_sgpd film → b ≡ entry_at fragment i →
-      fragment_last a b ≡ and_then (sgpd film) (λ wide. and_then (sgpd fragment) (λ own. part_in true own i))
-  fragment-last e f = rw (e, f) (and_then_assoc (sgpd film) _ _ ∙ and_then-same (sgpd film) _ _ (λ wide g. and_then_assoc (sgpd fragment) _ _))
 
 -- an entry that is found lies within the payload that has it
 module _ (film fragment : List ℕ) (raw : ℕ) where

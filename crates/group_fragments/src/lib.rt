@@ -7,8 +7,8 @@ ghost use Rattle.group_sgpd.specs.Sgpd.{sgpd};
 ghost use Rattle.group_fragments.specs.Fragments.{local_bit, part_in, described_at, GivesDescribed, plain_index, rate_of};
 ghost use Rattle.group_fragments.specs.Told.{told_part};
 
-use base_fields::Part;
-use base_fields::{INPUT_LIMIT, bytes_at};
+use base_fields::refusal::Refusal;
+use base_fields::{INPUT_LIMIT, Part, bytes_at};
 use base_ids::DescriptionIndex;
 
 // An index of a csgp in a fragment: the index alone, and whether its description is the fragment's own.
@@ -18,13 +18,11 @@ pub struct CsgpIndex {
     pub fragment_local: bool,
 }
 
-// Where the description of an index is: the place and the length of its bytes.
+// Where the description of an index is: the payload that has it, and the place and the length of its bytes there.
 #[derive(Clone, Copy)]
 pub enum FoundPart {
-    Film(usize, usize),
-    Fragment(usize, usize),
-    Nothing,
-    Refused(u32),
+    Film(Part),
+    Fragment(Part),
 }
 
 const LOCAL_BIT: u32 = 0x8000_0000;
@@ -40,45 +38,46 @@ pub fn split_csgp_index(raw: u32) -> CsgpIndex
 }
 
 // An entry of the film's payload, once both are read.
-fn in_film(film: &[u8], fragment: &[u8], index: DescriptionIndex) -> FoundPart
+fn in_film(
+    film: &[u8],
+    fragment: &[u8],
+    index: DescriptionIndex,
+) -> Result<Option<FoundPart>, Refusal>
     ensures { told_part result ≡ and_then (sgpd film.now) (λ wide. and_then (sgpd fragment.now) (λ own. part_in false wide index.0)) }
 {
-    match group_sgpd::entry_place(film, index) {
-        Ok(Some(Part { place, size })) => match group_sgpd::parse_sgpd(fragment) {
-            Ok(_) => FoundPart::Film(place, size),
-            Err(n) => FoundPart::Refused(n),
-        },
-        Ok(None) => match group_sgpd::parse_sgpd(fragment) {
-            Ok(_) => FoundPart::Nothing,
-            Err(n) => FoundPart::Refused(n),
-        },
-        Err(n) => FoundPart::Refused(n),
+    let found = group_sgpd::entry_place(film, index)?;
+    group_sgpd::parse_sgpd(fragment)?;
+    match found {
+        Some(part) => Ok(Some(FoundPart::Film(part))),
+        None => Ok(None),
     }
 }
 
 // An entry of the fragment's payload, once both are read.
-fn in_fragment(film: &[u8], fragment: &[u8], index: DescriptionIndex) -> FoundPart
+fn in_fragment(
+    film: &[u8],
+    fragment: &[u8],
+    index: DescriptionIndex,
+) -> Result<Option<FoundPart>, Refusal>
     ensures { told_part result ≡ and_then (sgpd film.now) (λ wide. and_then (sgpd fragment.now) (λ own. part_in true own index.0)) }
 {
-    if let Err(n) = group_sgpd::parse_sgpd(film) {
-        return FoundPart::Refused(n);
-    }
-    match group_sgpd::entry_place(fragment, index) {
-        Ok(Some(Part { place, size })) => FoundPart::Fragment(place, size),
-        Ok(None) => FoundPart::Nothing,
-        Err(n) => FoundPart::Refused(n),
+    group_sgpd::parse_sgpd(film)?;
+    let found = group_sgpd::entry_place(fragment, index)?;
+    match found {
+        Some(part) => Ok(Some(FoundPart::Fragment(part))),
+        None => Ok(None),
     }
 }
 
 // The place and the length of the entry that an index names, in the payload that bit 31 picks.
-pub fn described_place(film: &[u8], fragment: &[u8], raw: u32) -> FoundPart
+pub fn described_place(film: &[u8], fragment: &[u8], raw: u32) -> Result<Option<FoundPart>, Refusal>
     ensures { told_part result ≡ described_at film.now fragment.now raw }
 {
     if INPUT_LIMIT < film.len() {
-        return FoundPart::Refused(55);
+        return Err(Refusal::InputTooLong);
     }
     if INPUT_LIMIT < fragment.len() {
-        return FoundPart::Refused(55);
+        return Err(Refusal::InputTooLong);
     }
     let split = split_csgp_index(raw);
     let index = split.index;
@@ -93,10 +92,10 @@ pub fn described<'a>(film: &'a [u8], fragment: &'a [u8], raw: u32) -> &'a [u8]
     ensures { GivesDescribed (described_at film.now fragment.now raw) film.now fragment.now film.entry.ref_ptr fragment.entry.ref_ptr result.now result.ref_ptr }
 {
     match described_place(film, fragment, raw) {
-        FoundPart::Film(at, size) => bytes_at(film, at, size),
-        FoundPart::Fragment(at, size) => bytes_at(fragment, at, size),
-        FoundPart::Nothing => bytes_at(film, 0, 0),
-        FoundPart::Refused(_) => bytes_at(film, 0, 0),
+        Ok(Some(FoundPart::Film(part))) => bytes_at(film, part.place, part.size),
+        Ok(Some(FoundPart::Fragment(part))) => bytes_at(fragment, part.place, part.size),
+        Ok(None) => bytes_at(film, 0, 0),
+        Err(_) => bytes_at(film, 0, 0),
     }
 }
 
