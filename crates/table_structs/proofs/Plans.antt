@@ -5,10 +5,10 @@ use native.Mathlib.Omega.{arith}
 use borrow.Author.Tests.{lt-ltb, le-ltb}
 use mathlib.Core.List.{List, []}
 use lib.ListN.{length, length-reverse}
+use Rattle.std.specs.Prelude.{Ok}
 use Rattle.base_fields.specs.Answer.{Answer, given, refused}
 use Rattle.table_rows.specs.Row.{Row, Table}
 use Rattle.table_rows.specs.Found.{told_table}
-use Rattle.table_rows.specs.declared.ParsedTable.TheVariants as parsed
 use Rattle.table_replay.specs.Replay.{replay}
 use Rattle.table_replay.proofs.Replay.{replay-room}
 use Rattle.table_sbgp.specs.Sbgp.{parse_sbgp}
@@ -51,7 +51,7 @@ module _ (s : List ℕ) (room : ℕ) where
     abbrev sbgp_plan : RowCursor → Plan
     sbgp_plan c =
         record {
-          answer = parsed.Table (record { grouping_type = h.grouping_type; grouping_type_parameter = h.grouping_type_parameter; entry_count = h.entry_count });
+          answer = Ok (record { grouping_type = h.grouping_type; grouping_type_parameter = h.grouping_type_parameter; entry_count = h.entry_count });
           count = h.entry_count;
           table = table.Rows h;
           first = c;
@@ -73,7 +73,7 @@ module _ (s : List ℕ) (room : ℕ) where
     abbrev csgp_plan : RowCursor → ℕ → Plan
     csgp_plan c n =
         record {
-          answer = parsed.Table (record { grouping_type = h.grouping_type; grouping_type_parameter = h.grouping_type_parameter; entry_count = n });
+          answer = Ok (record { grouping_type = h.grouping_type; grouping_type_parameter = h.grouping_type_parameter; entry_count = n });
           count = n;
           table = table.Patterns h;
           first = c;

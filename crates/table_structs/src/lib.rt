@@ -14,9 +14,14 @@ use plan::plan_table;
 use stream::next_row;
 use table_front::TableKind;
 use table_row_structs::SampleToGroupEntry;
+use table_rows::SampleToGroup;
 
 // Writes the rows in front, one by one; there are none on refusal.
-fn parse_table(s: &[u8], kind: TableKind, rows: &mut [SampleToGroupEntry]) -> Result<SampleToGroup, Refusal>
+fn parse_table(
+    s: &[u8],
+    kind: TableKind,
+    rows: &mut [SampleToGroupEntry],
+) -> Result<SampleToGroup, Refusal>
     ensures { GivesTableIn (parsed_table kind s.now (length rows.old)) rows.old rows.new result }
 {
     let plan = plan_table(s, kind, rows.len());

@@ -1,18 +1,19 @@
 // A table's answer and row count, found by reading only.
 ghost use Rattle.std.specs.Prelude.{◌≡◌};
 ghost use Rattle.base_fields.specs.Answer.{refused};
+ghost use Rattle.base_fields.specs.Refusal.{number};
 ghost use Rattle.table_rows.specs.Found.{told_table};
 ghost use Rattle.table_sbgp.specs.Sbgp.{parse_sbgp};
 ghost use Rattle.table_csgp.specs.Table.{parse_csgp};
 ghost use Rattle.table_structs.specs.Table.{parsed_table};
 ghost use Rattle.table_structs.specs.Plan.{GivesPlan};
 
-use base_fields::refusal::Refusal;
 use crate::stream::{RowCursor, first_row};
-use table_csgp::measure::{measure};
+use base_fields::refusal::Refusal;
+use table_csgp::measure::measure;
 use table_csgp_head::{PatternsAt, read_csgp};
 use table_front::TableKind;
-use table_rows::{SampleToGroup};
+use table_rows::SampleToGroup;
 use table_runs::{RunCursor, SampleTable};
 use table_sbgp::{SbgpHead, read_sbgp};
 
@@ -26,11 +27,11 @@ pub struct Plan {
 }
 
 // A refusal: no row is written.
-fn no_rows(told: u32) -> Plan
-    ensures { (told_table result.answer ≡ refused told) × (result.count ≡ 0) }
+fn no_rows(refusal: Refusal) -> Plan
+    ensures { (told_table result.answer ≡ refused (number refusal)) × (result.count ≡ 0) }
 {
     Plan {
-        answer: Err(told),
+        answer: Err(refusal),
         count: 0,
         table: SampleTable::Rows(SbgpHead {
             grouping_type: 0,
@@ -60,7 +61,7 @@ fn plan_sbgp(s: &[u8], room: usize) -> Plan
         Ok(head) => {
             let count = head.entry_count as usize;
             if room < count {
-                return no_rows(29);
+                return no_rows(Refusal::NoRecordLeft);
             }
             let table = SampleTable::Rows(head);
             Plan {
@@ -74,7 +75,7 @@ fn plan_sbgp(s: &[u8], room: usize) -> Plan
                 first: first_row(s, table),
             }
         }
-        Err(n) => no_rows(n),
+        Err(refusal) => no_rows(refusal),
     }
 }
 
@@ -96,9 +97,9 @@ fn plan_csgp(s: &[u8], room: usize) -> Plan
                     first: first_row(s, table),
                 }
             }
-            Err(n) => no_rows(n),
+            Err(refusal) => no_rows(refusal),
         },
-        Err(n) => no_rows(n),
+        Err(refusal) => no_rows(refusal),
     }
 }
 
