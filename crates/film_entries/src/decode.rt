@@ -7,15 +7,15 @@ ghost use Rattle.film_entries.specs.Entries.{roll_numbers, rap_numbers, tele_num
 
 use base_fields::refusal::Refusal;
 use film_status::bit_of;
+use group_entries::RollRecovery;
 
 // Hands a distance out.
 fn put_roll(read: Result<RollRecovery, Refusal>, out: &mut [i64; 1]) -> u32
     ensures { Returns (told_roll read) roll_numbers out.old out.new result }
 {
     match read {
-        Ok(v) => {
-            let distance = v.roll_distance as i64;
-            out[0] = distance;
+        Ok(roll) => {
+            out[0] = i64::from(roll.roll_distance);
             0
         }
         Err(refusal) => refusal.number(),
@@ -40,11 +40,10 @@ pub fn film_decode_prol(s: &[u8], out: &mut [i64; 1]) -> u32
 pub fn film_decode_rap(s: &[u8], out: &mut [u64; 2]) -> u32
     ensures { Returns (within s.now (decode_rap s.now)) rap_numbers out.old out.new result }
 {
-    let read = group_entries::decode_rap(s);
-    match read {
-        Ok(v) => {
-            out[0] = bit_of(v.num_leading_samples_known);
-            out[1] = v.num_leading_samples as u64;
+    match group_entries::decode_rap(s) {
+        Ok(rap) => {
+            out[0] = bit_of(rap.num_leading_samples_known);
+            out[1] = u64::from(rap.num_leading_samples);
             0
         }
         Err(refusal) => refusal.number(),
@@ -55,10 +54,9 @@ pub fn film_decode_rap(s: &[u8], out: &mut [u64; 2]) -> u32
 pub fn film_decode_tele(s: &[u8], out: &mut [u64; 1]) -> u32
     ensures { Returns (within s.now (decode_tele s.now)) tele_numbers out.old out.new result }
 {
-    let read = group_entries::decode_tele(s);
-    match read {
-        Ok(v) => {
-            out[0] = bit_of(v.level_independently_decodable);
+    match group_entries::decode_tele(s) {
+        Ok(tele) => {
+            out[0] = bit_of(tele.level_independently_decodable);
             0
         }
         Err(refusal) => refusal.number(),
@@ -69,11 +67,10 @@ pub fn film_decode_tele(s: &[u8], out: &mut [u64; 1]) -> u32
 pub fn film_decode_sap(s: &[u8], out: &mut [u64; 2]) -> u32
     ensures { Returns (within s.now (decode_sap s.now)) sap_numbers out.old out.new result }
 {
-    let read = group_entries::decode_sap(s);
-    match read {
-        Ok(v) => {
-            out[0] = bit_of(v.dependent);
-            out[1] = v.sap_type as u64;
+    match group_entries::decode_sap(s) {
+        Ok(sap) => {
+            out[0] = bit_of(sap.dependent);
+            out[1] = u64::from(sap.sap_type);
             0
         }
         Err(refusal) => refusal.number(),
@@ -84,13 +81,12 @@ pub fn film_decode_sap(s: &[u8], out: &mut [u64; 2]) -> u32
 pub fn film_decode_rash(s: &[u8], out: &mut [u64; 4]) -> u32
     ensures { Returns (within s.now (decode_rash s.now)) rash_numbers out.old out.new result }
 {
-    let read = group_entries::decode_rash(s);
-    match read {
-        Ok(v) => {
-            out[0] = v.operation_point_count as u64;
-            out[1] = v.maximum_bitrate as u64;
-            out[2] = v.minimum_bitrate as u64;
-            out[3] = v.discard_priority as u64;
+    match group_entries::decode_rash(s) {
+        Ok(rash) => {
+            out[0] = u64::from(rash.operation_point_count);
+            out[1] = u64::from(rash.maximum_bitrate);
+            out[2] = u64::from(rash.minimum_bitrate);
+            out[3] = u64::from(rash.discard_priority);
             0
         }
         Err(refusal) => refusal.number(),
@@ -101,12 +97,11 @@ pub fn film_decode_rash(s: &[u8], out: &mut [u64; 4]) -> u32
 pub fn film_decode_alst(s: &[u8], out: &mut [u64; 3]) -> u32
     ensures { Returns (within s.now (decode_alst s.now)) alst_numbers out.old out.new result }
 {
-    let read = group_entries::decode_alst(s);
-    match read {
-        Ok(v) => {
-            out[0] = v.roll_count as u64;
-            out[1] = v.first_output_sample as u64;
-            out[2] = v.piece_count as u64;
+    match group_entries::decode_alst(s) {
+        Ok(alst) => {
+            out[0] = u64::from(alst.roll_count);
+            out[1] = u64::from(alst.first_output_sample);
+            out[2] = u64::from(alst.piece_count);
             0
         }
         Err(refusal) => refusal.number(),

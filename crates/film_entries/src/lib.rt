@@ -21,8 +21,7 @@ pub use number::{
 pub fn film_decode_alike(grouping_type: u32, a: &[u8], b: &[u8], out: &mut [u64; 1]) -> u32
     ensures { Returns (alike grouping_type a.now b.now) alike_numbers out.old out.new result }
 {
-    let read = group_alike::likeness_of(grouping_type, a, b);
-    match read {
+    match group_alike::likeness_of(grouping_type, a, b) {
         Ok(same) => {
             out[0] = bit_of(same);
             0
