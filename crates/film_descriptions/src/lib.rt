@@ -8,23 +8,21 @@ ghost use Rattle.group_sgpd.specs.Sgpd.{parse_sgpd, entry_at, all_entries};
 ghost use Rattle.film_status.specs.Status.{Returns, FillsRecords, stored};
 ghost use Rattle.film_descriptions.specs.Descriptions.{description_numbers, span_numbers, part_numbers, split_numbers};
 
-use base_fields::Part;
 use base_ids::DescriptionIndex;
-use film_status::{NONE, bit_of, put_records};
+use film_status::{NONE, bit_of, put_number};
 use group_fragments::FoundPart;
 
 // out: version, type, default length, default index, entry count.
 pub fn film_parse_sgpd(s: &[u8], out: &mut [u64; 5]) -> u32
     ensures { Returns (parse_sgpd s.now) description_numbers out.old out.new result }
 {
-    let read = group_sgpd::parse_sgpd(s);
-    match read {
+    match group_sgpd::parse_sgpd(s) {
         Ok(d) => {
-            out[0] = d.version as u64;
-            out[1] = d.grouping_type as u64;
-            out[2] = d.default_length as u64;
-            out[3] = d.default_sample_description_index as u64;
-            out[4] = d.entry_count as u64;
+            out[0] = u64::from(d.version);
+            out[1] = u64::from(d.grouping_type);
+            out[2] = u64::from(d.default_length);
+            out[3] = u64::from(d.default_sample_description_index);
+            out[4] = u64::from(d.entry_count);
             0
         }
         Err(refusal) => refusal.number(),
@@ -35,11 +33,10 @@ pub fn film_parse_sgpd(s: &[u8], out: &mut [u64; 5]) -> u32
 pub fn film_entry_place(s: &[u8], index: u32, out: &mut [u64; 2]) -> u32
     ensures { Returns (entry_at s.now index) span_numbers out.old out.new result }
 {
-    let read = group_sgpd::entry_place(s, DescriptionIndex(index));
-    match read {
-        Ok(Some(Part { place, size })) => {
-            out[0] = place as u64;
-            out[1] = size as u64;
+    match group_sgpd::entry_place(s, DescriptionIndex(index)) {
+        Ok(Some(part)) => {
+            out[0] = part.place as u64;
+            out[1] = part.size as u64;
             0
         }
         Ok(None) => NONE,
@@ -51,7 +48,7 @@ pub fn film_entry_place(s: &[u8], index: u32, out: &mut [u64; 2]) -> u32
 pub fn film_entry_places(s: &[u8], places: &mut [u32], out: &mut [u64; 1]) -> u32
     ensures { FillsRecords (all_entries s.now places.old) (λ e. e.place) (λ e. e.size) places.old places.new out.old out.new result }
 {
-    put_records(group_sgpd::entry_places(s, places), out)
+    put_number(group_sgpd::entry_places(s, places).map(u64::from), out)
 }
 
 // out: the index without bit 31, and that bit. There is nothing to refuse, and no status.
@@ -59,7 +56,7 @@ pub fn film_split_csgp_index(raw: u32, out: &mut [u64; 2])
     ensures { out.new ≡ stored split_numbers (given raw) out.old }
 {
     let split = group_fragments::split_csgp_index(raw);
-    out[0] = split.index.0 as u64;
+    out[0] = u64::from(split.index.0);
     out[1] = bit_of(split.fragment_local);
 }
 
@@ -67,22 +64,21 @@ pub fn film_split_csgp_index(raw: u32, out: &mut [u64; 2])
 pub fn film_described_place(film: &[u8], fragment: &[u8], raw: u32, out: &mut [u64; 3]) -> u32
     ensures { Returns (described_at film.now fragment.now raw) part_numbers out.old out.new result }
 {
-    let read = group_fragments::described_place(film, fragment, raw);
-    match read {
-        FoundPart::Film(place, size) => {
+    match group_fragments::described_place(film, fragment, raw) {
+        Ok(Some(FoundPart::Film(part))) => {
             out[0] = 0;
-            out[1] = place as u64;
-            out[2] = size as u64;
+            out[1] = part.place as u64;
+            out[2] = part.size as u64;
             0
         }
-        FoundPart::Fragment(place, size) => {
+        Ok(Some(FoundPart::Fragment(part))) => {
             out[0] = 1;
-            out[1] = place as u64;
-            out[2] = size as u64;
+            out[1] = part.place as u64;
+            out[2] = part.size as u64;
             0
         }
-        FoundPart::Nothing => NONE,
-        FoundPart::Refused(n) => n,
+        Ok(None) => NONE,
+        Err(refusal) => refusal.number(),
     }
 }
 
