@@ -7,11 +7,11 @@ ghost use Rattle.table_structs.specs.Table.{GivesTableIn};
 ghost use Rattle.test_struct_runs.specs.Rows.{GivesReads, GivesWrites};
 
 use base_fields::refusal::Refusal;
-use base_ids::{RowNumber, SampleNumber};
+use base_ids::{DescriptionIndex, RowNumber, SampleNumber};
 use table_row_structs::{
-    SampleToGroupEntry, covered_samples, group_index_for_sample, row_at,
-    set_row, write_rows,
+    SampleToGroupEntry, covered_samples, group_index_for_sample, row_at, set_row, write_rows,
 };
+use table_rows::SampleToGroup;
 
 #[derive(Clone, Copy)]
 pub struct TableRead {
