@@ -1,16 +1,18 @@
 // The C interface: sample tables, their rows in a lent run of u32 (a count and an index each), and lookups over such a run.
 #![tactic(auto)]
 
+ghost use Rattle.base_fields.specs.Refusal.{told_value};
 ghost use Rattle.table_rows.specs.Row.{records_in, lookup, total};
 ghost use Rattle.table_rows.specs.Found.{told_table};
 ghost use Rattle.table_sbgp.specs.Sbgp.{parse_sbgp};
 ghost use Rattle.table_csgp.specs.Table.{parse_csgp};
-ghost use Rattle.table_needed.specs.Needed.{rows_needed, told_needed};
+ghost use Rattle.table_needed.specs.Needed.{rows_needed};
 ghost use Rattle.film_status.specs.Status.{Returns, one_number};
 ghost use Rattle.film_tables.specs.Tables.{Fills, head_numbers};
 
 use base_fields::refusal::Refusal;
 use base_ids::{RowNumber, SampleCount, SampleNumber};
+use table_rows::SampleToGroup;
 
 // Hands a table's head out.
 fn put_head(parsed: Result<SampleToGroup, Refusal>, out: &mut [u64; 3]) -> u32
@@ -43,7 +45,7 @@ pub fn film_parse_csgp(s: &[u8], rows: &mut [RowNumber], out: &mut [u64; 3]) -> 
 
 // Hands the number of rows out.
 fn put_needed(needed: Result<usize, Refusal>, out: &mut [u64; 1]) -> u32
-    ensures { Returns (told_needed needed) one_number out.old out.new result }
+    ensures { Returns (told_value needed) one_number out.old out.new result }
 {
     match needed {
         Ok(n) => {
