@@ -7,7 +7,8 @@ use native.Mathlib.Omega.{arith}
 use borrow.Author.Tests.{lt-ltb, le-ltb, ne_eqb}
 use lib.ListN.{length, get_or, length-map, get_or-map}
 use Rattle.base_fields.specs.Answer.{Answer, given, none, refused, and_then}
-use Rattle.base_fields.specs.Span.{Span, bytes_at}
+use Rattle.base_fields.specs.Span.{Span, bytes_at, span_of}
+use Rattle.base_fields.specs.declared.Part.{Part}
 use Rattle.base_fields.proofs.Answers.{given_inj}
 use Rattle.group_entries.specs.Layout.{decode}
 use Rattle.group_sgpd.specs.Sgpd.{pick, entry_at}
@@ -93,8 +94,8 @@ module _ {s : List ℕ} {h : SgpdHead} (r : ReadWhole s h) (i : ℕ) where
   pub gives-outside : i ≡ 0 → GivesMeaning s i Outside
   gives-outside e = record { inside = tt; meant = λ t entries g. meaning-outside t s es i e ∙ ap (λ (l : List (List ℕ)). meaning_of t l i) (only g) }
 
-  pub gives-entry : {p n : ℕ} → entry_at s i ≡ given (record { place = p; size = n }) → GivesMeaning s i (Entry p n)
-  gives-entry {p} {n} f =
+  pub gives-entry : {p : Part} → entry_at s i ≡ given (span_of p) → GivesMeaning s i (Entry p)
+  gives-entry f =
       record {
         inside = entry-inside s i f;
         meant = λ t entries g. meaning-found t s es i _ (sym entry-is ∙ f) ∙ ap (λ (l : List (List ℕ)). meaning_of t l i) (only g);

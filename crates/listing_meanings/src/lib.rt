@@ -20,7 +20,7 @@ pub use likeness::like;
 pub enum MeaningAt {
     Outside,
     Missing,
-    Entry(usize, usize),
+    Entry(Part),
 }
 
 // The meaning of an index, from the landmarks of a payload that was read whole.
@@ -32,7 +32,7 @@ pub fn meaning_at(s: &[u8], head: SgpdHead, marks: &[u32; 16], index: Descriptio
         return MeaningAt::Outside;
     }
     match marked_entry(s, head, marks, index) {
-        Ok(Some(Part { place, size })) => MeaningAt::Entry(place, size),
+        Ok(Some(part)) => MeaningAt::Entry(part),
         Ok(None) => MeaningAt::Missing,
         // does not come up: the payload was read whole
         Err(_) => MeaningAt::Missing,

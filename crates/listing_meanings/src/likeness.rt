@@ -4,31 +4,23 @@ ghost use Rattle.base_fields.specs.Answer.{input_limit};
 ghost use Rattle.listing_meanings.specs.Meant.{entry_meaning, Means, GivesLike};
 
 use super::MeaningAt;
-use base_fields::bytes_at;
-use group_alike::{decode_alike};
+use base_fields::{Part, bytes_at};
+use group_alike::decode_alike;
 
 // Whether two entries decode to the same value: those at one place without a look.
-fn entries_like(
-    grouping_type: u32,
-    s: &[u8],
-    place: usize,
-    size: usize,
-    other_place: usize,
-    other_size: usize,
-) -> bool
-    requires { (length s.now ≤ input_limit) × (Means grouping_type s.now (entry_meaning place size)) × (Means grouping_type s.now (entry_meaning other_place other_size)) }
-    ensures { GivesLike grouping_type s.now (entry_meaning place size) (entry_meaning other_place other_size) result }
+fn entries_like(grouping_type: u32, s: &[u8], a: Part, b: Part) -> bool
+    requires { (length s.now ≤ input_limit) × (Means grouping_type s.now (entry_meaning a)) × (Means grouping_type s.now (entry_meaning b)) }
+    ensures { GivesLike grouping_type s.now (entry_meaning a) (entry_meaning b) result }
 {
-    if place == other_place {
-        if size == other_size {
+    if a.place == b.place {
+        if a.size == b.size {
             return true;
         }
     }
-    let entry = bytes_at(s, place, size);
-    let other = bytes_at(s, other_place, other_size);
+    let entry = bytes_at(s, a.place, a.size);
+    let other = bytes_at(s, b.place, b.size);
     match decode_alike(grouping_type, entry, other) {
-        Ok(true) => true,
-        Ok(false) => false,
+        Ok(same) => same,
         // does not come up: both entries decode
         Err(_) => false,
     }
@@ -43,19 +35,17 @@ pub fn like(grouping_type: u32, s: &[u8], a: MeaningAt, b: MeaningAt) -> bool
         MeaningAt::Outside => match b {
             MeaningAt::Outside => true,
             MeaningAt::Missing => false,
-            MeaningAt::Entry(_, _) => false,
+            MeaningAt::Entry(_) => false,
         },
         MeaningAt::Missing => match b {
             MeaningAt::Outside => false,
             MeaningAt::Missing => true,
-            MeaningAt::Entry(_, _) => false,
+            MeaningAt::Entry(_) => false,
         },
-        MeaningAt::Entry(place, size) => match b {
+        MeaningAt::Entry(part) => match b {
             MeaningAt::Outside => false,
             MeaningAt::Missing => false,
-            MeaningAt::Entry(other_place, other_size) => {
-                entries_like(grouping_type, s, place, size, other_place, other_size)
-            }
+            MeaningAt::Entry(other) => entries_like(grouping_type, s, part, other),
         },
     }
 }

@@ -4,13 +4,15 @@ use Prim.Native.Nat.{ℕ, ◌<◌}
 use native.Mathlib.Omega.{arith}
 use lib.ListN.{length, get_or, take}
 use Rattle.base_fields.specs.Answer.{Answer}
+use Rattle.base_fields.specs.Refusal.{told_value}
+use Rattle.group_sgpd.proofs.Heads.{handed}
 use Rattle.base_fields.proofs.Answers.{given-first, refused-first}
 use Rattle.table_patterns.specs.Place.{pattern_in}
 use Rattle.table_patterns.specs.declared.PatternAt.{PatternAt}
 use Rattle.table_patterns.proofs.Indices.{indices-length}
 use Rattle.table_views.specs.Used.{first_refusal}
 use Rattle.listing_theorem.specs.Meaning.{Meaning}
-use Rattle.listing_meanings.specs.Meant.{meaning_in, told_checked}
+use Rattle.listing_meanings.specs.Meant.{meaning_in}
 use Rattle.listing_meanings.proofs.Checking.{passed_none, passed-more, refused-here, used-taken}
 use Rattle.listing_meanings.proofs.check.check_pattern.Goals as goal
 use Rattle.listing_meanings.proofs.check.check_pattern.Goals.{After-check_index, At-loop-i}
@@ -56,19 +58,19 @@ check_index-requires c =
 pub loop-i-preserved : goal.loop-i-preserved
 loop-i-preserved c =
     let l = (goal.at.loop-i-preserved c).At-loop-i in
-    let has = given-first (meaning l (index (goal.at.loop-i-preserved c).After-check_index)) _ (sym (ap told_checked (sym c.in-Passed.is) ∙ c.check_index.ensures)) in (
+    let has = given-first (meaning l (index (goal.at.loop-i-preserved c).After-check_index)) _ (sym (ap told_value (sym c.in_ok-check_index.was) ∙ c.check_index.ensures)) in (
       omega arith,
       passed-more (meaning l) (indices l) c.loop-i.i (below (goal.at.loop-i-preserved c).After-check_index) c.loop-i.invariant.1 (ap (meaning l) (sym (here (goal.at.loop-i-preserved c).After-check_index)) ∙ has.1),
       record { meaning = has.0; given = has.1 },
     )
 
-pub returns-in-Refused : goal.returns-in-Refused
-returns-in-Refused c =
-    let l = (goal.at.returns-in-Refused c).At-loop-i in
+pub returns-in_err-check_index : goal.returns-in_err-check_index
+returns-in_err-check_index c =
+    let l = (goal.at.returns-in_err-check_index c).At-loop-i in
     let used = c.used_positions-used in
-    let code = refused-first (meaning l (index (goal.at.returns-in-Refused c).After-check_index)) (λ v. tt) (sym (ap told_checked (sym c.in-Refused.is) ∙ c.check_index.ensures)) in
-    ap (first_refusal (meaning l)) (used-taken _ _ used.result used.ensures)
-    ∙ refused-here (meaning l) (indices l) c.loop-i.i used.result (below (goal.at.returns-in-Refused c).After-check_index) c.loop-i-test.true c.loop-i.invariant.1 (ap (meaning l) (sym (here (goal.at.returns-in-Refused c).After-check_index)) ∙ code)
+    let code = refused-first (meaning l (index (goal.at.returns-in_err-check_index c).After-check_index)) (λ v. tt) (sym (ap told_value (sym c.in_err-check_index.was) ∙ c.check_index.ensures)) in
+    rw (handed c.from_residual.ensures) (ap (first_refusal (meaning l)) (used-taken _ _ used.result used.ensures)
+    ∙ refused-here (meaning l) (indices l) c.loop-i.i used.result (below (goal.at.returns-in_err-check_index c).After-check_index) c.loop-i-test.true c.loop-i.invariant.1 (ap (meaning l) (sym (here (goal.at.returns-in_err-check_index c).After-check_index)) ∙ code))
 
 pub returns : goal.returns
 returns c =
