@@ -14,7 +14,7 @@ use Rattle.listing_theorem.specs.Meaning.{Meaning}
 use Rattle.listing_theorem.specs.Samples.{meanings}
 use Rattle.listing_spec.specs.Table.{entries_of}
 use Rattle.listing_numbers.proofs.Stores.{stored-front}
-use Rattle.listing_meanings.specs.Meant.{told_checked}
+use Rattle.base_fields.specs.Refusal.{told_value}
 use Rattle.listing_meanings.proofs.Found.{entry_bytes, entries-are}
 use Rattle.listing_measure.specs.Measured.{listing_of}
 use Rattle.listing_measure.proofs.Checked.{check-passed}
@@ -29,7 +29,7 @@ module _ (c : In_default) where
   read = entries-are c.requires.whole_in.2 0
 
   passed : (ms : List Meaning) × (meanings c.args.grouping_type (entry_bytes c.args.s.now c.requires.whole_in.2.entries) (samples_of (ahead_in c.args.table_s.now c.args.table (all_in c.args.table))) ≡ given ms)
-  passed = check-passed c.args.grouping_type (entry_bytes c.args.s.now c.requires.whole_in.2.entries) c.args.table_s.now c.args.table c.requires.whole_in.0 (sym (ap told_checked c.in_default.is) ∙ c.check_used.ensures (entry_bytes c.args.s.now c.requires.whole_in.2.entries) read)
+  passed = check-passed c.args.grouping_type (entry_bytes c.args.s.now c.requires.whole_in.2.entries) c.args.table_s.now c.args.table c.requires.whole_in.0 (sym (ap told_value c.in_default.is) ∙ c.check_used.ensures (entry_bytes c.args.s.now c.requires.whole_in.2.entries) read)
 
   -- the caller's table
 

@@ -10,7 +10,7 @@ use Rattle.table_runs.specs.Ahead.{all_in, ahead_in}
 use Rattle.listing_theorem.specs.Meaning.{Meaning}
 use Rattle.listing_theorem.specs.Samples.{meanings}
 use Rattle.listing_spec.specs.Table.{entries_of}
-use Rattle.listing_meanings.specs.Meant.{told_checked}
+use Rattle.base_fields.specs.Refusal.{told_value}
 use Rattle.listing_meanings.proofs.Found.{entry_bytes, entries-are}
 use Rattle.listing_measure.proofs.Meant.{all-mean}
 use Rattle.listing_measure.proofs.Checked.{check-passed}
@@ -25,7 +25,7 @@ module _ (c : In_default) where
   read = entries-are c.requires.1 0
 
   passed : (ms : List Meaning) × (meanings c.args.grouping_type (entry_bytes c.args.s.now c.requires.1.entries) (samples_of (ahead_in c.args.table_s.now c.args.table (all_in c.args.table))) ≡ given ms)
-  passed = check-passed c.args.grouping_type (entry_bytes c.args.s.now c.requires.1.entries) c.args.table_s.now c.args.table c.requires.0 (sym (ap told_checked c.in_default.is) ∙ c.check_used.ensures (entry_bytes c.args.s.now c.requires.1.entries) read)
+  passed = check-passed c.args.grouping_type (entry_bytes c.args.s.now c.requires.1.entries) c.args.table_s.now c.args.table c.requires.0 (sym (ap told_value c.in_default.is) ∙ c.check_used.ensures (entry_bytes c.args.s.now c.requires.1.entries) read)
 
 pub returns-in-Refused : goal.returns-in-Refused
 returns-in-Refused c =

@@ -8,7 +8,7 @@ use Rattle.table_views.specs.Used.{Filled, used_in, first_refusal}
 use Rattle.listing_theorem.specs.Samples.{meaning_of}
 use Rattle.listing_spec.specs.Table.{entries_of}
 use Rattle.listing_spec.specs.Group.{Group}
-use Rattle.listing_meanings.specs.Meant.{told_checked}
+use Rattle.base_fields.specs.Refusal.{told_value}
 use Rattle.listing_meanings.specs.declared.Checked.{Checked}
 use Rattle.use_profile.specs.Profile.{t, Verdict}
 use Rattle.use_profile.proofs.From.{from-decoders, from-seen}
@@ -22,8 +22,8 @@ module _ (c : After-check_used) where
     filled = let a = c.args in rw p (filled-ahead a.table_s.now a.table (all_in a.table) c.requires.0)
 
     checked : {r : Checked} → entries_of c.args.s.now ≡ given g.entries → c.check_used.result ≡ r
-        → told_checked r ≡ first_refusal (meaning_of t g.entries) (used_in g.patterns)
-    checked e f = rw p (sym (ap told_checked f) ∙ c.check_used.ensures g.entries e)
+        → told_value r ≡ first_refusal (meaning_of t g.entries) (used_in g.patterns)
+    checked e f = rw p (sym (ap told_value f) ∙ c.check_used.ensures g.entries e)
 
 pub returns-in-Refused : goal.returns-in-Refused
 returns-in-Refused c =
