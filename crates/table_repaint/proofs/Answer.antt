@@ -1,4 +1,5 @@
 -- What each way out of the preview and of the edit answers.
+use Rattle.std.specs.Prelude.{Err}
 use mathlib.Core.Path.{◌≡◌, refl, sym, ◌∙◌}
 use mathlib.Core.Bool.{Bool, true, false}
 use Prim.Native.Nat.{ℕ, ◌*◌, ◌<◌, ◌≤◌}
@@ -8,6 +9,8 @@ use mathlib.Core.List.{List, []}
 use lib.Dec.{leb}
 use lib.ListN.{length, get_or, take, length-take}
 use Rattle.base_fields.specs.Answer.{given, refused, refuse_if}
+use Rattle.base_fields.specs.Refusal.{number}
+use Rattle.base_fields.specs.declared.refusal.Refusal.{Refusal}
 use Rattle.base_fields.specs.Number.{field_bound}
 use Rattle.base_fields.proofs.Answers.{given-first, refused-first}
 use Rattle.base_ids.specs.Limits.{record_limit}
@@ -19,7 +22,6 @@ use Rattle.table_repaint.specs.Repaint.{stated_rows, repainted, rows_counted}
 use Rattle.table_repaint.specs.Repainted.{GivesRepaint}
 use Rattle.table_repaint.specs.Cut.{tail_count}
 use Rattle.table_repaint.specs.Ready.{AcceptedRepaint}
-use Rattle.table_repaint.specs.declared.Repainted.TheVariants as made
 use Rattle.table_repaint.proofs.ByRuns.{answer-by-rows}
 use Rattle.table_repaint.proofs.Counts.{stated_counts}
 
@@ -66,7 +68,7 @@ module _ (l : List ℕ) (stated a b i : ℕ) where
       let first = given-first (repainted l stated a b i) (λ rs. given (length rs)) (sym e) in
       record { rows = first.0; gives = first.1; counts = stated_counts l stated h }
 
-  pub gives-refused : {n : ℕ} → refused n ≡ rows_counted (repainted l stated a b i) → GivesRepaint (repainted l stated a b i) l l (made.Refused n)
-  gives-refused {n} e =
-      let told : repainted l stated a b i ≡ refused n = refused-first (repainted l stated a b i) (λ rs. length rs) (sym e) in
-      record { answer = e; run = rw told refl }
+  pub gives-refused : {e : Refusal} → refused (number e) ≡ rows_counted (repainted l stated a b i) → GivesRepaint (repainted l stated a b i) l l (Err e)
+  gives-refused {e} h =
+      let told : repainted l stated a b i ≡ refused (number e) = refused-first (repainted l stated a b i) (λ rs. length rs) (sym h) in
+      record { answer = h; run = rw told refl }

@@ -6,14 +6,15 @@ mod pieces;
 mod write;
 
 ghost use Rattle.std.specs.Prelude.{◌≡◌};
+ghost use Rattle.base_fields.specs.Refusal.{told_value};
 ghost use Rattle.table_repaint.specs.Repaint.{repainted, rows_counted};
-ghost use Rattle.table_repaint.specs.Repainted.{told_repainted, GivesRepaint};
+ghost use Rattle.table_repaint.specs.Repainted.{GivesRepaint};
 
 use base_fields::refusal::Refusal;
 use base_ids::{DescriptionIndex, RECORD_LIMIT, RECORD_NUMBERS, RowNumber};
 use count::count_repainted;
+use table_rows::covered_samples;
 use table_rows::record::record_count;
-use table_rows::{covered_samples};
 use write::write_repainted;
 
 // What an edit would answer: the first `stated` records are rows, of which the samples from a up to but not b get an index.
@@ -24,7 +25,7 @@ pub fn preview_repaint(
     b: u64,
     index: DescriptionIndex,
 ) -> Result<usize, Refusal>
-    ensures { told_repainted result ≡ rows_counted (repainted rows.now stated a b index.0) }
+    ensures { told_value result ≡ rows_counted (repainted rows.now stated a b index.0) }
 {
     let records = record_count(rows);
     if RECORD_LIMIT < records {
@@ -55,12 +56,7 @@ pub fn repaint(
 ) -> Result<usize, Refusal>
     ensures { GivesRepaint (repainted rows.old stated a b index.0) rows.old rows.new result }
 {
-    match preview_repaint(rows, stated, a, b, index) {
-        Ok(n) => {
-            let paint = index.0;
-            write_repainted(rows, stated, a, b, paint);
-            Ok(n)
-        }
-        Err(n) => Err(n),
-    }
+    let count = preview_repaint(rows, stated, a, b, index)?;
+    write_repainted(rows, stated, a, b, index.0);
+    Ok(count)
 }

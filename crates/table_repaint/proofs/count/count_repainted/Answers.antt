@@ -1,13 +1,8 @@
-use mathlib.Core.Path.{◌≡◌, refl, ap, sym, ◌∙◌}
-use mathlib.Core.List.{[]}
-use Prim.Native.Nat.{ℕ}
+use mathlib.Core.Path.{refl, sym, ◌∙◌}
 use native.Mathlib.Omega.{arith}
-use Rattle.base_fields.specs.Answer.{refused}
-use Rattle.table_rows.specs.Row.{records_in}
-use Rattle.table_replay.specs.Enter.{tail_of, told_entered}
-use Rattle.table_repaint.proofs.Counting.{count_from, count-end, count-on, count-refused}
+use Rattle.base_fields.proofs.Handed.{handed}
+use Rattle.table_repaint.proofs.Counting.{count-end, count-on, count-refused}
 use Rattle.table_repaint.proofs.count.count_repainted.Goals as goal
-use Rattle.table_repaint.proofs.count.count_repainted.Goals.{After-enter_pieces}
 
 pub loop-j-init : goal.loop-j-init
 loop-j-init c = (omega arith, c.requires.1, c.requires.0, rw c.record_count-room.ensures refl)
@@ -21,21 +16,14 @@ description_at-index-requires c = omega arith
 pub enter_pieces-requires : goal.enter_pieces-requires
 enter_pieces-requires c = (omega arith, omega arith)
 
--- behind the pieces of row j
-module _ (c : After-enter_pieces) where
-  -- the refusal of a piece is the answer
-  stops : {n : ℕ} → refused n ≡ told_entered c.enter_pieces.result
-      → let a = c.args in let l = a.rows.now in refused n ≡ count_from l a.stated (records_in l) 0 a.a a.b a.paint (tail_of [])
-  stops e =
-      sym (count-refused _ _ _ _ _ _ _ _ c.loop-j.invariant.2 c.loop-j-test.true c.count_at-count.ensures
-      c.description_at-index.ensures c.least-x.ensures c.least-y.ensures (e ∙ c.enter_pieces.ensures))
-      ∙ c.loop-j.invariant.3
-
-pub returns-in-Over : goal.returns-in-Over
-returns-in-Over c = stops (goal.at.returns-in-Over c).After-enter_pieces (ap told_entered (sym c.in-Over.is))
-
-pub returns-in-Full : goal.returns-in-Full
-returns-in-Full c = stops (goal.at.returns-in-Full c).After-enter_pieces (ap told_entered (sym c.in-Full.is))
+-- the refusal of a piece is the answer
+pub returns-in_err-tail : goal.returns-in_err-tail
+returns-in_err-tail c =
+    let at = c.loop-j in
+    rw (handed c.from_residual.ensures)
+    (sym (count-refused _ _ _ _ _ _ _ _ at.invariant.2 c.loop-j-test.true c.count_at-count.ensures
+    c.description_at-index.ensures c.least-x.ensures c.least-y.ensures c.in_err-tail.ensures)
+    ∙ at.invariant.3)
 
 pub overflow_cast-from : goal.overflow_cast-from
 overflow_cast-from c = omega arith
@@ -62,7 +50,7 @@ loop-j-preserved c =
       omega arith,
       at.invariant.2,
       sym (count-on _ _ _ _ _ _ _ _ at.invariant.2 c.loop-j-test.true c.count_at-count.ensures c.description_at-index.ensures
-          c.least-x.ensures c.least-y.ensures (ap told_entered (sym c.in-Next.is) ∙ c.enter_pieces.ensures))
+          c.least-x.ensures c.least-y.ensures c.in_ok-tail.ensures)
           ∙ at.invariant.3,
     )
 
