@@ -5,7 +5,8 @@ use Prim.Native.Nat.{ℕ, ◌+◌, ◌-◌, ◌^◌, ◌≤◌, ◌<◌}
 use native.Mathlib.Omega.{arith}
 use lib.ListN.{length}
 use Rattle.base_fields.specs.Answer.{given, input_limit}
-use Rattle.base_fields.specs.Span.{bytes_at}
+use Rattle.base_fields.specs.Span.{bytes_at, span_of}
+use Rattle.base_fields.specs.declared.Part.{Part}
 use Rattle.base_fields.proofs.Answers.{given_inj, given-first}
 use Rattle.group_entries.specs.Decoded.{Decoded}
 use Rattle.group_entries.specs.Layout.{layout_of, decode_as, decode}
@@ -40,26 +41,26 @@ module _ (t : ℕ) (s : List ℕ) (samples : ℕ) (p : ℕ) (o q : List ℕ) (j 
         near = omega (arith, number-near_64 samples a h, number-near 0 1 b (omega arith));
       }
 
-  pub put-entry : (place size : ℕ) {l : EntryLayout} {u v : List ℕ} {k r : ℕ} → Puts (groups samples) p o q j → Puts (groups 2) j q u k → samples < 2 ^ 64 → l ≡ layout_of t
-      → PutsValue l (bytes_at s (record { place = place; size = size })) k u v r → PutsStretch t s samples (at.Entry place size) p o v r
+  pub put-entry : (e : Part) {l : EntryLayout} {u v : List ℕ} {k r : ℕ} → Puts (groups samples) p o q j → Puts (groups 2) j q u k → samples < 2 ^ 64 → l ≡ layout_of t
+      → PutsValue l (bytes_at s (span_of e)) k u v r → PutsStretch t s samples (at.Entry e) p o v r
   unfolding decode
-  put-entry place size a b h e c =
+  put-entry e a b h y c =
       record {
         puts = λ m g.
-            let d = given-first (decode t (bytes_at s (record { place = place; size = size }))) (λ x. given (value x)) g in
-            rw (← given_inj d.2) (puts_then (puts_then a b) (c.puts d.0 (rw e d.1)));
+            let d = given-first (decode t (bytes_at s (span_of e))) (λ x. given (value x)) g in
+            rw (← given_inj d.2) (puts_then (puts_then a b) (c.puts d.0 (rw y d.1)));
         near = omega (arith, number-near_64 samples a h, number-near 0 2 b (omega arith), c.near);
       }
 
 -- a part as it is cut is the entry's bytes
-pub cut : (place size : ℕ) → place + size - place ≡ size
-cut place size = omega arith
+pub cut : (e : Part) → e.place + e.size - e.place ≡ e.size
+cut e = omega arith
 
 -- an entry that has a meaning decodes
-pub entry_value : (t : ℕ) (s : List ℕ) (place size : ℕ) {l : EntryLayout} → l ≡ layout_of t → Means t s (entry_meaning place size) → length s ≤ input_limit → (k : ℕ) → k ≤ place_limit
-    → (length (bytes_at s (record { place = place; size = size })) ≤ input_limit) × (k ≤ place_limit)
-    × ((v : Decoded) × (decode_as l (bytes_at s (record { place = place; size = size })) ≡ given v))
+pub entry_value : (t : ℕ) (s : List ℕ) (e : Part) {l : EntryLayout} → l ≡ layout_of t → Means t s (entry_meaning e) → length s ≤ input_limit → (k : ℕ) → k ≤ place_limit
+    → (length (bytes_at s (span_of e)) ≤ input_limit) × (k ≤ place_limit)
+    × ((v : Decoded) × (decode_as l (bytes_at s (span_of e)) ≡ given v))
 unfolding decode
-entry_value t s place size e m h k near =
-    let d = given-first (decode t (bytes_at s (record { place = place; size = size }))) (λ x. given (value x)) m.given in
-    (part-short s (record { place = place; size = size }) h, near, (d.0, rw e d.1))
+entry_value t s e y m h k near =
+    let d = given-first (decode t (bytes_at s (span_of e))) (λ x. given (value x)) m.given in
+    (part-short s (span_of e) h, near, (d.0, rw y d.1))

@@ -1,9 +1,7 @@
 -- Whole periods of a pattern that are passed in one step, in numbers.
-use Rattle.std.specs.Prelude.{ℕ, ◌+◌, ◌-◌, ◌*◌, ◌≤◌, ◌<◌, ◌≡◌, ◌⊎◌}
+use Rattle.std.specs.Prelude.{ℕ, ◌+◌, ◌-◌, ◌*◌, ◌≤◌, ◌<◌, ◌≡◌, ◌⊎◌, Option, Some, None}
 use Rattle.listing_stretches.specs.declared.Hand.{Hand}
 use Rattle.listing_stretches.specs.declared.Mark.{Mark}
-use Rattle.listing_stretches.specs.declared.Passed.{Passed}
-use Rattle.listing_stretches.specs.declared.Passed.TheVariants as passed
 
 -- n periods later: d bytes more for each, or as many samples
 abbrev pub repeated : Hand → ℕ → ℕ → Hand
@@ -12,10 +10,10 @@ repeated h d n = record { at = h.at + n * d; samples = h.samples; index = h.inde
 abbrev pub lengthened : Hand → ℕ → ℕ → Hand
 lengthened h length n = record { at = h.at; samples = h.samples + n * length; index = h.index }
 
-abbrev pub GivesRepeated : Hand → ℕ → ℕ → ℕ → ℕ → ℕ → Passed → Type 0
-GivesRepeated h d k length n limit (passed.On next j mark) =
+abbrev pub GivesRepeated : Hand → ℕ → ℕ → ℕ → ℕ → ℕ → Option (Hand × ℕ × Mark) → Type 0
+GivesRepeated h d k length n limit (Some (next, j, mark)) =
     (next ≡ repeated h d n) × (j ≡ k + n * length) × (mark ≡ record { sample = j; hand = next }) × (next.at ≤ limit)
-GivesRepeated h d k length n limit passed.Over = limit < (repeated h d n).at
+GivesRepeated h d k length n limit None = limit < (repeated h d n).at
 
 -- the samples since the mark are one period, which left the stretch in hand as it found it
 pub record LikePeriod (mark : Mark) (hand : Hand) (k length : ℕ) : Type 0 where
@@ -52,6 +50,6 @@ pub record Overlong (mark : Mark) (hand : Hand) (k length count limit : ℕ) : T
   pub like : LikePeriod mark hand k length
   pub over : limit < (repeated hand (hand.at - mark.hand.at) periods).at
 
-abbrev pub GivesPassed : Mark → Hand → ℕ → ℕ → ℕ → ℕ → Passed → Type 0
-GivesPassed mark hand k length count limit (passed.On next j to) = Passes mark hand k length count limit next j to
-GivesPassed mark hand k length count limit passed.Over = Overlong mark hand k length count limit
+abbrev pub GivesPassed : Mark → Hand → ℕ → ℕ → ℕ → ℕ → Option (Hand × ℕ × Mark) → Type 0
+GivesPassed mark hand k length count limit (Some (next, j, to)) = Passes mark hand k length count limit next j to
+GivesPassed mark hand k length count limit None = Overlong mark hand k length count limit

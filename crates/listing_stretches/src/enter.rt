@@ -32,10 +32,10 @@ pub fn put_stretch(
     match meaning {
         MeaningAt::Outside => put_number(out, kind, 0),
         MeaningAt::Missing => put_number(out, kind, 1),
-        MeaningAt::Entry(place, size) => {
+        MeaningAt::Entry(part) => {
             let value = put_number(out, kind, 2);
-            let end = place + size;
-            put_value(layout_of(grouping_type), &s[place..end], out, value)
+            let end = part.place + part.size;
+            put_value(layout_of(grouping_type), &s[part.place..end], out, value)
         }
     }
 }

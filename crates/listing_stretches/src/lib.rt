@@ -35,4 +35,3 @@ pub struct Mark {
     pub sample: PatternCount,
     pub hand: Hand,
 }
-

@@ -6,7 +6,7 @@ ghost use Rattle.listing_stretches.specs.Passed.{GivesRepeated, GivesPassed, len
 use super::{Hand, Mark};
 use base_ids::PatternCount;
 
-// Periods that leave the stretch in hand as it is and add as many bytes each.
+// Periods that leave the stretch in hand as it is and add as many bytes each. None where the output would pass the limit.
 fn repeat_periods(
     hand: Hand,
     added: usize,
@@ -46,7 +46,8 @@ fn lengthen(hand: Hand, length: u32, periods: u32) -> Hand
 }
 
 // At the end of a period: where it left the stretch in hand as it found it, each whole period that is left adds the same bytes; where
-// all of it joined that stretch, so do they.
+// all of it joined that stretch, so do they. What is in hand afterwards, how many samples of the pattern are passed, and the mark; none
+// where the output would pass the limit.
 pub fn pass_periods(
     mark: Mark,
     hand: Hand,

@@ -19,13 +19,7 @@ module _ (c : After-put_number-kind) where
 
 -- of an entry
 module _ (c : In-Entry) where
-  abbrev place : ℕ
-  place = c.in-Entry.place
-
-  abbrev size : ℕ
-  size = c.in-Entry.size
-
-  means : Means c.args.grouping_type c.args.s.now (entry_meaning place size)
+  means : Means c.args.grouping_type c.args.s.now (entry_meaning c.in-Entry.part)
   means = subst (λ (m : MeaningAt). Means c.args.grouping_type c.args.s.now m) c.in-Entry.is c.requires.1
 
 pub put_number-requires : goal.put_number-requires
@@ -51,8 +45,8 @@ pub put_value-requires : goal.put_value-requires
 put_value-requires c =
     let p = (goal.at.put_value-requires c).After-put_number-kind in
     let value = number-near 0 2 c.put_number-value.ensures (omega arith) in
-    rw (cut (place (goal.at.put_value-requires c).In-Entry) (size (goal.at.put_value-requires c).In-Entry))
-    (entry_value _ _ _ _ c.layout_of.ensures (means (goal.at.put_value-requires c).In-Entry) c.requires.0 _ (omega (arith, near p, value, c.requires.2)))
+    rw (cut c.in-Entry.part)
+    (entry_value _ _ _ c.layout_of.ensures (means (goal.at.put_value-requires c).In-Entry) c.requires.0 _ (omega (arith, near p, value, c.requires.2)))
 
 pub returns-in-Outside : goal.returns-in-Outside
 returns-in-Outside c =
@@ -66,5 +60,5 @@ pub returns-in-Entry : goal.returns-in-Entry
 returns-in-Entry c =
     let p = (goal.at.returns-in-Entry c).After-put_number-kind in
     rw c.in-Entry.is
-    (put-entry _ _ _ _ _ _ _ _ _ c.put_number-kind.ensures c.put_number-value.ensures (small p) c.layout_of.ensures
-    (rw (cut (place (goal.at.returns-in-Entry c).In-Entry) (size (goal.at.returns-in-Entry c).In-Entry)) at c.put_value.ensures))
+    (put-entry _ _ _ _ _ _ _ _ c.put_number-kind.ensures c.put_number-value.ensures (small p) c.layout_of.ensures
+    (rw (cut c.in-Entry.part) at c.put_value.ensures))

@@ -4,11 +4,10 @@ use mathlib.Core.Logic.{inl, inr}
 use Prim.Native.Nat.{ℕ, ◌+◌, ◌-◌, ◌*◌, ◌/◌, ◌≤◌}
 use native.Mathlib.Nat.{div-mul-le_self, zero-mul, add-zero}
 use native.Mathlib.Omega.{arith}
+use Rattle.std.specs.Prelude.{Option, Some, None}
 use Rattle.listing_stretches.specs.Passed.{Passes, LikePeriod, JoinedPeriod, GivesRepeated, GivesPassed}
 use Rattle.listing_stretches.specs.declared.Hand.{Hand}
 use Rattle.listing_stretches.specs.declared.Mark.{Mark}
-use Rattle.listing_stretches.specs.declared.Passed.{Passed}
-use Rattle.listing_stretches.specs.declared.Passed.TheVariants as passed
 use Rattle.listing_stretches.proofs.periods.pass_periods.Goals as goal
 
 whole : (k length count : ℕ) → k ≤ count → k + (count - k) / length * length ≤ count
@@ -40,8 +39,8 @@ anew mark hand k length count limit h l =
 
 -- periods like the last one
 again : (mark : Mark) (hand : Hand) (k length count limit : ℕ) → k ≤ count → LikePeriod mark hand k length
-    → (r : Passed) → GivesRepeated hand (hand.at - mark.hand.at) k length ((count - k) / length) limit r → GivesPassed mark hand k length count limit r
-again mark hand k length count limit h like (passed.On next j to) g =
+    → (r : Option (Hand × ℕ × Mark)) → GivesRepeated hand (hand.at - mark.hand.at) k length ((count - k) / length) limit r → GivesPassed mark hand k length count limit r
+again mark hand k length count limit h like (Some (next, j, to)) g =
     record {
       periods = (count - k) / length;
       within = whole k length count h;
@@ -50,7 +49,7 @@ again mark hand k length count limit h like (passed.On next j to) g =
       near = g.3;
       marks = inr g.2;
     }
-again mark hand k length count limit h like passed.Over g = record { periods = (count - k) / length; within = whole k length count h; like = like; over = g }
+again mark hand k length count limit h like None g = record { periods = (count - k) / length; within = whole k length count h; like = like; over = g }
 
 pub returns-then-k-mark : goal.returns-then-k-mark
 returns-then-k-mark c =
