@@ -42,12 +42,10 @@ pub fn same_bytes(seen: &[u8], output: &[u8], size: u64) -> bool {
     if 8 <= n - size {
         return false;
     }
-    let mut k: usize = 0;
-    while k < seen.len() {
+    for k in 0..seen.len() {
         if seen[k] != byte_of(output, size, k) {
             return false;
         }
-        k = k + 1;
     }
     true
 }
@@ -64,12 +62,10 @@ pub fn same_rows(seen: &[u8], rows: &[u32], count: u64) -> bool {
     if (n / 2) as u64 != count {
         return false;
     }
-    let mut k: usize = 0;
-    while k < n {
+    for k in 0..n {
         if base_fields::read_u64(seen, 8 * k) != rows[k] as u64 {
             return false;
         }
-        k = k + 1;
     }
     true
 }
@@ -118,13 +114,8 @@ fn parse(record: &[u8], rows: &mut [u32], out: &mut [u64; 3]) -> u32 {
 
 // The bytes as numbers of a run.
 pub fn load(s: &[u8], rows: &mut [u32]) {
-    let mut k: usize = 0;
-    while k < rows.len() {
-        if s.len() / 4 <= k {
-            return;
-        }
+    for k in 0..rows.len().min(s.len() / 4) {
         rows[k] = base_fields::read_u32(s, 4 * k);
-        k = k + 1;
     }
 }
 

@@ -6,12 +6,10 @@ const BEFORE: u8 = 165;
 
 // The bytes from a place on are as they were before the call.
 fn kept(body: &[u8], from: usize) -> bool {
-    let mut k = from;
-    while k < body.len() {
+    for k in from..body.len() {
         if body[k] != BEFORE {
             return false;
         }
-        k = k + 1;
     }
     true
 }

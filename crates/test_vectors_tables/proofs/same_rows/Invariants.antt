@@ -1,9 +1,0 @@
--- The loop ends, and every read is within the rows.
-use Prim.Native.Nat.{◌-◌, ◌≤◌}
-use Rattle.test_vectors_tables.proofs.same_rows.Given as goal
-
-abbrev pub invariant-loop-k : goal.invariant-loop-k
-invariant-loop-k l = l.k ≤ l.n
-
-abbrev pub decreases-loop-k : goal.decreases-loop-k
-decreases-loop-k l = l.n - l.k
