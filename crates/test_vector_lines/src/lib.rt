@@ -130,12 +130,10 @@ pub fn same_numbers(seen: &[u8], out: &[u64]) -> bool
     if seen.len() / 8 != out.len() {
         return false;
     }
-    let mut k: usize = 0;
-    while k < out.len() {
+    for k in 0..out.len() {
         if base_fields::read_u64(seen, 8 * k) != out[k] {
             return false;
         }
-        k = k + 1;
     }
     true
 }

@@ -28,14 +28,12 @@ pub fn line_end(text: &[u8], from: usize) -> usize
     requires { from < length text.now }
     ensures { (result ≡ from + line_length (drop from text.now)) × (from ≤ result) × (result ≤ length text.now) }
 {
-    let mut at = from;
-    while at < text.len() {
+    for at in from..text.len() {
         if text[at] == b'\n' {
             return at;
         }
-        at = at + 1;
     }
-    at
+    text.len()
 }
 
 // A digit's value; 16 for any other byte.
@@ -64,12 +62,12 @@ pub fn decode(text: &[u8], from: usize, to: usize, bytes: &mut [u8]) -> usize
     ensures size { result ≡ decoded_size (slice from to text.now) (length bytes.old) }
     ensures content { take result bytes.new ≡ take result (written (slice from to text.now)) }
 {
-    let mut n: usize = 0;
-    let mut at = from;
-    while at + 1 < to {
+    let size = (to - from) / 2;
+    for n in 0..size {
         if bytes.len() <= n {
             return 0;
         }
+        let at = from + 2 * n;
         let high = digit(text[at]);
         let low = digit(text[at + 1]);
         if 15 < high {
@@ -79,8 +77,6 @@ pub fn decode(text: &[u8], from: usize, to: usize, bytes: &mut [u8]) -> usize
             return 0;
         }
         bytes[n] = high * 16 + low;
-        n = n + 1;
-        at = at + 2;
     }
-    n
+    size
 }

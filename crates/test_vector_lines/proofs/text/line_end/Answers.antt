@@ -1,11 +1,6 @@
-use borrow.Author.Rules.{rules}
 use native.Mathlib.Omega.{arith}
-use mathlib.Core.Path.{refl}
 use Rattle.test_vector_lines.proofs.Laws.{line_ends, line_goes, line_none}
 use Rattle.test_vector_lines.proofs.text.line_end.Goals as goal
-
-pub loop-at-init : goal.loop-at-init
-loop-at-init c = (search rules, search rules, refl)
 
 pub returns-then-text-at-eq10 : goal.returns-then-text-at-eq10
 returns-then-text-at-eq10 c =
@@ -17,7 +12,7 @@ pub loop-at-preserved : goal.loop-at-preserved
 loop-at-preserved c =
     let t = c.args.text.now in
     let e = line_goes t c.loop-at.at c.loop-at-test.true c.if-text-at-eq10.false in
-    (omega arith, omega arith, omega arith)
+    omega arith
 
 pub returns : goal.returns
 returns c =
