@@ -19,10 +19,8 @@ use Rattle.listing_stretches.specs.declared.Progress.{Progress}
 use Rattle.listing_stretches.proofs.Ahead.{listing-ahead}
 use Rattle.listing_stretches.proofs.Entering.{recalls-none}
 use Rattle.listing_stretches.proofs.Repeats.{map_append}
+use Rattle.std.specs.Prelude.{Option, Some, None}
 use Rattle.listing_measure.specs.Measured.{AllMean, Measures, meanings_by, listing_of, GivesMeasuring, GivesEnd, GivesLength}
-use Rattle.listing_measure.specs.declared.Measuring.TheVariants as measuring
-use Rattle.listing_measure.specs.declared.MeasuredListing.{MeasuredListing}
-use Rattle.listing_measure.specs.declared.MeasuredListing.TheVariants as measured
 use Rattle.listing_measure.proofs.Meant.{mean-rest}
 
 pub map-length : {A B : Type 0} (f : A → B) (l : List A) → length (map f l) ≡ length l
@@ -77,7 +75,7 @@ module _ (t : ℕ) (s : List ℕ) (all : List Pattern) (limit : ℕ) where
     unfolding covered_by
     first_fits = omega (arith, x.samples)
 
-    pub over-next : GivesMeasuring t s p here limit memory measuring.Over → limit < length (listing_of t s all)
+    pub over-next : GivesMeasuring t s p here limit memory None → limit < length (listing_of t s all)
     over-next g = rw (x.ends, first_then) (g (meanings_by t s (samples_of ahead)))
 
     pub through-next : {later : List ℕ} {next : Progress} → Measures t s p here limit later next → Through ahead later next
@@ -92,7 +90,7 @@ module _ (t : ℕ) (s : List ℕ) (all : List Pattern) (limit : ℕ) where
           samples = omega (arith, m.samples, x.samples);
         }
 
-  pub through-end : {memory : List ℕ} (here : Progress) → Through [] memory here → (r : MeasuredListing) → GivesEnd t s here limit r → GivesLength t s all limit r
+  pub through-end : {memory : List ℕ} (here : Progress) → Through [] memory here → (r : Option ℕ) → GivesEnd t s here limit r → GivesLength t s all limit r
   unfolding samples_of
-  through-end here x (measured.Bytes n) g = (g.0 ∙ sym x.ends, g.1)
-  through-end here x measured.Over g = rw x.ends g
+  through-end here x (Some n) g = (g.0 ∙ sym x.ends, g.1)
+  through-end here x None g = rw x.ends g

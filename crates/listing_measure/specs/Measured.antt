@@ -1,5 +1,5 @@
 -- How long a listing is: pattern by pattern, and whole.
-use Rattle.std.specs.Prelude.{ℕ, ◌+◌, ◌≤◌, ◌<◌, ◌≡◌, List, [], ◌++◌, map, length}
+use Rattle.std.specs.Prelude.{ℕ, ◌+◌, ◌≤◌, ◌<◌, ◌≡◌, Option, Some, None, List, [], ◌++◌, map, length}
 use Rattle.table_rows.specs.Pattern.{Pattern, index_in, samples_from, samples_of, covered_by, index_of}
 use Rattle.listing_theorem.specs.Meaning.{Meaning}
 use Rattle.listing_theorem.specs.Listing.{listing}
@@ -7,10 +7,6 @@ use Rattle.listing_meanings.specs.Meant.{HasMeaning}
 use Rattle.listing_stretches.specs.Ahead.{end_after, Moves}
 use Rattle.listing_stretches.specs.Entered.{InHand, Recalls, meaning_by}
 use Rattle.listing_stretches.specs.declared.Progress.{Progress}
-use Rattle.listing_measure.specs.declared.Measuring.{Measuring}
-use Rattle.listing_measure.specs.declared.Measuring.TheVariants as measuring
-use Rattle.listing_measure.specs.declared.MeasuredListing.{MeasuredListing}
-use Rattle.listing_measure.specs.declared.MeasuredListing.TheVariants as measured
 
 -- every sample has a meaning: of a pattern, of a table
 abbrev pub PatternMeans : ℕ → List ℕ → Pattern → Type 0
@@ -32,20 +28,20 @@ pub record Measures (t : ℕ) (s : List ℕ) (p : Pattern) (from : Progress) (li
   pub samples : r.hand.samples ≤ from.hand.samples + p.count
 
 -- or the output passes the limit, whatever follows
-abbrev pub GivesMeasuring : ℕ → List ℕ → Pattern → Progress → ℕ → List ℕ → Measuring → Type 0
-GivesMeasuring t s p from limit memory (measuring.Next r) = Measures t s p from limit memory r
-GivesMeasuring t s p from limit memory measuring.Over =
+abbrev pub GivesMeasuring : ℕ → List ℕ → Pattern → Progress → ℕ → List ℕ → Option Progress → Type 0
+GivesMeasuring t s p from limit memory (Some r) = Measures t s p from limit memory r
+GivesMeasuring t s p from limit memory None =
     (rest : List Meaning) → limit < end_after (meaning_by t s) from.hand (meanings_by t s (samples_from p 0 p.count) ++ rest)
 
 -- the listing of a table's samples
 abbrev pub listing_of : ℕ → List ℕ → List Pattern → List ℕ
 listing_of t s ps = listing t (meanings_by t s (samples_of ps))
 
-abbrev pub GivesLength : ℕ → List ℕ → List Pattern → ℕ → MeasuredListing → Type 0
-GivesLength t s ps limit (measured.Bytes n) = (n ≡ length (listing_of t s ps)) × (n ≤ limit)
-GivesLength t s ps limit measured.Over = limit < length (listing_of t s ps)
+abbrev pub GivesLength : ℕ → List ℕ → List Pattern → ℕ → Option ℕ → Type 0
+GivesLength t s ps limit (Some n) = (n ≡ length (listing_of t s ps)) × (n ≤ limit)
+GivesLength t s ps limit None = limit < length (listing_of t s ps)
 
 -- where no sample is left: the end of what is in hand, or that it passes the limit
-abbrev pub GivesEnd : ℕ → List ℕ → Progress → ℕ → MeasuredListing → Type 0
-GivesEnd t s from limit (measured.Bytes n) = (n ≡ end_after (meaning_by t s) from.hand []) × (n ≤ limit)
-GivesEnd t s from limit measured.Over = limit < end_after (meaning_by t s) from.hand []
+abbrev pub GivesEnd : ℕ → List ℕ → Progress → ℕ → Option ℕ → Type 0
+GivesEnd t s from limit (Some n) = (n ≡ end_after (meaning_by t s) from.hand []) × (n ≤ limit)
+GivesEnd t s from limit None = limit < end_after (meaning_by t s) from.hand []

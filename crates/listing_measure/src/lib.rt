@@ -14,14 +14,12 @@ ghost use Rattle.listing_measure.specs.Measured.{PatternMeans, AllMean, GivesMea
 
 use base_ids::{DescriptionIndex, PatternCount};
 use group_sgpd::SgpdHead;
-use listing_stretches::{
-    Mark, Progress, begin_listing, close_stretch, enter_run, pass_periods,
-};
+use listing_stretches::{Mark, Progress, begin_listing, close_stretch, enter_run, pass_periods};
 use table_patterns::PatternAt;
 use table_patterns::run::run_at;
 use table_runs::{SampleTable, first_pattern, next_pattern};
 
-// The samples of a pattern, run by run, with whole periods passed in one step.
+// The samples of a pattern, run by run, with whole periods passed in one step; none where the output would pass the limit.
 fn measure_pattern(
     grouping_type: u32,
     table_s: &[u8],
@@ -65,25 +63,28 @@ fn measure_pattern(
         if limit < hand.at {
             return None;
         }
-        match pass_periods(mark, hand, k + run.count, pattern.length, count, limit) {
-            Some((next, sample, to)) => {
-                let meaning = entered.meaning;
-                let kept = entered.kept;
-                here = Progress {
-                    hand: next,
-                    meaning,
-                    kept,
-                };
-                k = sample;
-                mark = to;
-            }
-            None => return None,
-        }
+        let (next, sample, to) = pass_periods(
+            mark,
+            hand,
+            k + run.count,
+            pattern.length,
+            count,
+            limit,
+        )?;
+        let meaning = entered.meaning;
+        let kept = entered.kept;
+        here = Progress {
+            hand: next,
+            meaning,
+            kept,
+        };
+        k = sample;
+        mark = to;
     }
     Some(here)
 }
 
-// Behind the last sample.
+// The end behind the last sample; none where it is past the limit.
 fn measure_end(
     grouping_type: u32,
     s: &[u8],
@@ -102,7 +103,7 @@ fn measure_end(
 }
 
 // The length of the listing of a table that covers `covered` samples, all of which have a meaning. What is lent as `out` is not looked at: an
-// empty part of the output will do.
+// empty part of the output will do. None where it is over the limit.
 pub fn measure_listing(
     grouping_type: u32,
     table_s: &[u8],
@@ -128,7 +129,7 @@ pub fn measure_listing(
     loop {
         match next_pattern(table_s, table, here) {
             Some((pattern, behind)) => {
-                match measure_pattern(
+                progress = measure_pattern(
                     grouping_type,
                     table_s,
                     pattern,
@@ -139,13 +140,8 @@ pub fn measure_listing(
                     out,
                     progress,
                     limit,
-                ) {
-                    Some(next) => {
-                        progress = next;
-                        here = behind;
-                    }
-                    None => return None,
-                }
+                )?;
+                here = behind;
             }
             None => return measure_end(grouping_type, s, out, progress, limit),
         }

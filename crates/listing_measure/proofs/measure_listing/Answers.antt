@@ -34,7 +34,7 @@ pub measure_pattern-requires : goal.measure_pattern-requires
 measure_pattern-requires c =
     let a = c.args in
     let pre = c.requires in
-    let step = rw c.in-Pattern.is at c.next_pattern.ensures in
+    let step = rw c.in-Some.is at c.next_pattern.ensures in
     let y = rw step.first at c.loop-pattern.invariant.1 in record {
       stands = (step.stands, pre.whole_in.1, pre.whole_in.2);
       pattern_means = (mean-first _ _ _ _ y.mean, y.held, y.alike);
@@ -43,31 +43,31 @@ measure_pattern-requires c =
 
 pub loop-pattern-smaller : goal.loop-pattern-smaller
 loop-pattern-smaller c =
-    let step = rw c.in-Pattern.is at c.next_pattern.ensures in
+    let step = rw c.in-Some.is at c.next_pattern.ensures in
     step.fewer
 
 pub loop-pattern-preserved : goal.loop-pattern-preserved
 loop-pattern-preserved c =
     let a = c.args in
-    let step = rw c.in-Pattern.is at c.next_pattern.ensures in
+    let step = rw c.in-Some.is at c.next_pattern.ensures in
     let y = rw step.first at c.loop-pattern.invariant.1 in
-    let m = rw c.in-Next.is at c.measure_pattern.ensures in
+    let m = rw c.in_ok-progress-in-Some.was at c.measure_pattern.ensures in
     (step.whole, through-next a.grouping_type a.s.now (all (goal.at.loop-pattern-preserved c).At-loop-pattern) a.limit _ _ _ y m, c.measure_pattern.auto.out ∙ c.loop-pattern.invariant.2)
 
-pub returns-in-Over : goal.returns-in-Over
-returns-in-Over c =
+pub returns-in_err-progress-in-Some : goal.returns-in_err-progress-in-Some
+returns-in_err-progress-in-Some c =
     let a = c.args in
-    let step = rw c.in-Pattern.is at c.next_pattern.ensures in
+    let step = rw c.in-Some.is at c.next_pattern.ensures in
     let y = rw step.first at c.loop-pattern.invariant.1 in
-    over-next a.grouping_type a.s.now (all (goal.at.returns-in-Over c).At-loop-pattern) a.limit _ _ _ y (rw c.in-Over.is at c.measure_pattern.ensures)
+    rw c.from_residual.ensures (over-next a.grouping_type a.s.now (all (goal.at.returns-in_err-progress-in-Some c).At-loop-pattern) a.limit _ _ _ y (rw c.in_err-progress-in-Some.was at c.measure_pattern.ensures))
 
 pub measure_end-requires : goal.measure_end-requires
 measure_end-requires c =
     let x = c.loop-pattern.invariant.1 in
     ((c.args.head, c.requires.whole_in.1), x.held, omega (arith, x.near, c.requires.covered_le_covered_limit))
 
-pub returns-in-End : goal.returns-in-End
-returns-in-End c =
+pub returns-in-None : goal.returns-in-None
+returns-in-None c =
     let a = c.args in
-    let none = rw c.in-End.is at c.next_pattern.ensures in
-    through-end a.grouping_type a.s.now (all (goal.at.returns-in-End c).At-loop-pattern) a.limit c.loop-pattern.progress (rw none at c.loop-pattern.invariant.1) c.measure_end.result c.measure_end.ensures
+    let none = rw c.in-None.is at c.next_pattern.ensures in
+    through-end a.grouping_type a.s.now (all (goal.at.returns-in-None c).At-loop-pattern) a.limit c.loop-pattern.progress (rw none at c.loop-pattern.invariant.1) c.measure_end.result c.measure_end.ensures

@@ -65,7 +65,7 @@ loop-k-smaller c =
     let here = (goal.at.loop-k-smaller c).After-run_at-run in
     let l = c.loop-k in
     let a = c.args in
-    let passed = rw c.in-On.is at c.pass_periods.ensures in
+    let passed = rw c.in_ok-next.was at c.pass_periods.ensures in
     let on = passes_on a.grouping_type a.s.now (p here) a.progress a.limit l.k l.here l.mark l.invariant.0 c.run_at-run.result c.run_at-run.ensures _ _ c.enter_run-entered.result c.enter_run-entered.ensures.0 _ (size here) passed in
     omega (arith, on, c.loop-k-test.true)
 
@@ -74,18 +74,18 @@ loop-k-preserved c =
     let here = (goal.at.loop-k-preserved c).After-run_at-run in
     let l = c.loop-k in
     let a = c.args in
-    let passed = rw c.in-On.is at c.pass_periods.ensures in (
+    let passed = rw c.in_ok-next.was at c.pass_periods.ensures in (
       within-next a.grouping_type a.s.now (p here) a.progress a.limit l.k l.here l.mark l.invariant.0 c.run_at-run.result c.run_at-run.ensures _ _ c.enter_run-entered.result c.enter_run-entered.ensures.0 _ (size here) passed c.enter_run-entered.ensures.1,
       c.enter_run-entered.auto.out ∙ l.invariant.1,
     )
 
-pub returns-in-Over : goal.returns-in-Over
-returns-in-Over c =
-    let here = (goal.at.returns-in-Over c).After-run_at-run in
+pub returns-in_err-next : goal.returns-in_err-next
+returns-in_err-next c =
+    let here = (goal.at.returns-in_err-next c).After-run_at-run in
     let l = c.loop-k in
     let a = c.args in
-    let passed = rw c.in-Over.is at c.pass_periods.ensures in
-    over-periods a.grouping_type a.s.now (p here) a.progress a.limit l.k l.here l.mark l.invariant.0 c.run_at-run.result c.run_at-run.ensures _ _ c.enter_run-entered.result c.enter_run-entered.ensures.0 _ (size here) passed
+    let passed = rw c.in_err-next.was at c.pass_periods.ensures in
+    rw c.from_residual.ensures (over-periods a.grouping_type a.s.now (p here) a.progress a.limit l.k l.here l.mark l.invariant.0 c.run_at-run.result c.run_at-run.ensures _ _ c.enter_run-entered.result c.enter_run-entered.ensures.0 _ (size here) passed)
 
 pub returns : goal.returns
 returns c =
