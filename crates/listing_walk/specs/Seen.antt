@@ -1,41 +1,36 @@
 -- What the inner steps of the walk answer, and what the code's state tells of what was taken.
-use Rattle.std.specs.Prelude.{ℕ, ◌+◌, ◌≤◌, List, eqb}
+use Rattle.std.specs.Prelude as std
+use Rattle.std.specs.Prelude.{ℕ, ◌+◌, ◌≤◌, List, eqb, Result, Some, None}
 use Rattle.std.proofs.Math.Option.{Option, none, some}
 use Rattle.base_fields.specs.Answer as answer
-use Rattle.base_fields.specs.Answer.{Answer, given, refused, choose, and_then}
+use Rattle.base_fields.specs.Answer.{Answer, given, choose, and_then}
+use Rattle.base_fields.specs.Refusal.{told, told_or_none}
+use Rattle.base_fields.specs.declared.refusal.Refusal.{Refusal}
 use Rattle.base_fields.specs.Span.{Span}
 use Rattle.atom_tree.specs.Atom.{Known, Header}
+use Rattle.atom_tree.specs.Told.{span_of}
+use Rattle.atom_tree.specs.declared.BodyAt.{BodyAt}
+use Rattle.table_front.specs.declared.TableKind.{TableKind}
 use Rattle.listing_spec.specs.Walk.{TakenTable, Taken, body_of, grouping_of, once}
 use Rattle.listing_walk.specs.Told.{taken_as}
-use Rattle.listing_walk.specs.declared.SeenTable.{SeenTable}
-use Rattle.listing_walk.specs.declared.SeenTable.TheVariants as seen_table
-use Rattle.listing_walk.specs.declared.SeenSgpd.{SeenSgpd}
-use Rattle.listing_walk.specs.declared.SeenSgpd.TheVariants as seen_sgpd
 use Rattle.listing_walk.specs.declared.Seen.{Seen}
-use Rattle.listing_walk.specs.declared.Visited.{Visited}
-use Rattle.listing_walk.specs.declared.Visited.TheVariants as visited
-use Rattle.listing_walk.specs.declared.visit.NamedBody.{NamedBody}
-use Rattle.listing_walk.specs.declared.visit.NamedBody.TheVariants as named
 
-abbrev pub table_of : SeenTable → Option TakenTable
-table_of seen_table.Nothing = none
-table_of (seen_table.At kind place size) = some (taken_as kind (record { place = place; size = size }))
+abbrev pub table_of : std.Option (TableKind × BodyAt) → Option TakenTable
+table_of None = none
+table_of (Some table) = some (taken_as table.0 (span_of table.1))
 
-abbrev pub sgpd_of : SeenSgpd → Option Span
-sgpd_of seen_sgpd.Nothing = none
-sgpd_of (seen_sgpd.At place size) = some (record { place = place; size = size })
+abbrev pub sgpd_of : std.Option BodyAt → Option Span
+sgpd_of None = none
+sgpd_of (Some body) = some (span_of body)
 
 abbrev pub taken_of : Seen → Taken
 taken_of seen = record { table = table_of seen.table; sgpd = sgpd_of seen.sgpd }
 
-abbrev pub told_visited : Visited → Answer Taken
-told_visited (visited.Next seen) = given (taken_of seen)
-told_visited (visited.Refused n) = refused n
+abbrev pub told_visited : Result Seen Refusal → Answer Taken
+told_visited = told taken_of
 
-abbrev pub told_named : NamedBody → Answer Span
-told_named (named.Named place size) = given (record { place = place; size = size })
-told_named named.Other = answer.none
-told_named (named.Refused n) = refused n
+abbrev pub told_named : Result (std.Option BodyAt) Refusal → Answer Span
+told_named = told_or_none span_of
 
 -- the body at `place` of an atom of a size, behind a header of n bytes, ends at or before `end`
 abbrev pub SpanEnds : ℕ → ℕ → ℕ → Known → Type 0

@@ -1,12 +1,13 @@
--- Document 01's answer for each case of the enums of src/.
-use Rattle.base_fields.specs.Answer.{Answer, given, refused}
+-- Document 01's answer for what src/ answers with.
+use Rattle.std.specs.Prelude.{Result}
+use Rattle.base_fields.specs.Answer.{Answer}
+use Rattle.base_fields.specs.Refusal.{told}
+use Rattle.base_fields.specs.declared.refusal.Refusal.{Refusal}
 use Rattle.base_fields.specs.Span.{Span}
 use Rattle.table_front.specs.declared.TableKind.{TableKind}
 use Rattle.table_front.specs.declared.TableKind.TheVariants.{Sbgp, Csgp}
 use Rattle.listing_spec.specs.Walk.{TakenTable, sbgp_at, csgp_at, Sources}
 use Rattle.listing_walk.specs.declared.SourcesAt.{SourcesAt}
-use Rattle.listing_walk.specs.declared.FoundSources.{FoundSources}
-use Rattle.listing_walk.specs.declared.FoundSources.TheVariants as found
 
 abbrev pub taken_as : TableKind → Span → TakenTable
 taken_as Sbgp b = sbgp_at b
@@ -19,6 +20,5 @@ sources_of f =
       sgpd = record { place = f.sgpd_place; size = f.sgpd_size };
     }
 
-abbrev pub told_sources : FoundSources → Answer Sources
-told_sources (found.Sources f) = given (sources_of f)
-told_sources (found.Refused n) = refused n
+abbrev pub told_sources : Result SourcesAt Refusal → Answer Sources
+told_sources = told sources_of

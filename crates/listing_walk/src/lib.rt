@@ -8,10 +8,9 @@ ghost use Rattle.listing_spec.specs.Walk.{found, sources};
 ghost use Rattle.listing_walk.specs.Told.{told_sources};
 ghost use Rattle.listing_walk.specs.Seen.{taken_of};
 
-use base_fields::refusal::Refusal;
 use atom_tree::BodyAt;
-use atom_tree::Child;
 use base_fields::INPUT_LIMIT;
+use base_fields::refusal::Refusal;
 use table_front::TableKind;
 use visit::visit;
 
@@ -36,21 +35,15 @@ struct Seen {
 fn sources_of(seen: Seen) -> Result<SourcesAt, Refusal>
     ensures { told_sources result ≡ found (taken_of seen) }
 {
-    let table = seen.table;
-    let sgpd = seen.sgpd;
-    match table {
-        None => Err(Refusal::NoTable),
-        Some(kind, table_place, table_size) => match sgpd {
-            None => Err(Refusal::NoSgpd),
-            Some(BodyAt { place: sgpd_place, size: sgpd_size }) => Ok(SourcesAt {
-                kind,
-                table_place: table_place as usize,
-                table_size: table_size as usize,
-                sgpd_place: sgpd_place as usize,
-                sgpd_size: sgpd_size as usize,
-            }),
-        },
-    }
+    let (kind, table) = seen.table.ok_or(Refusal::NoTable)?;
+    let sgpd = seen.sgpd.ok_or(Refusal::NoSgpd)?;
+    Ok(SourcesAt {
+        kind,
+        table_place: table.place as usize,
+        table_size: table.size as usize,
+        sgpd_place: sgpd.place as usize,
+        sgpd_size: sgpd.size as usize,
+    })
 }
 
 // The table and the sgpd of a grouping type in an stbl's body.
@@ -66,21 +59,9 @@ pub fn find_sources(s: &[u8], grouping_type: u32) -> Result<SourcesAt, Refusal>
         table: None,
         sgpd: None,
     };
-    loop {
-        let child = atom_tree::next_child(s, at, Some(end));
-        match child {
-            Ok(Some(Child { head: h, next })) => {
-                let visited = visit(s, grouping_type, h, seen);
-                match visited {
-                    Ok(taken) => {
-                        seen = taken;
-                        at = next;
-                    }
-                    Err(n) => return Err(n),
-                }
-            }
-            Ok(None) => return sources_of(seen),
-            Err(n) => return Err(n),
-        }
+    while let Some(child) = atom_tree::next_child(s, at, Some(end))? {
+        seen = visit(s, grouping_type, child.head, seen)?;
+        at = child.next;
     }
+    sources_of(seen)
 }

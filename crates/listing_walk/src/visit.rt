@@ -1,16 +1,16 @@
 // A child of an stbl's body, by its type.
 ghost use Rattle.std.specs.Prelude.{◌≡◌, length};
-ghost use Rattle.atom_tree.specs.Told.{header_of};
+ghost use Rattle.base_fields.specs.Refusal.{number};
+ghost use Rattle.atom_tree.specs.Told.{header_of, span_of};
 ghost use Rattle.listing_spec.specs.Walk.{visit_table, visit_sgpd};
 ghost use Rattle.listing_spec.specs.Walk as walk;
 ghost use Rattle.listing_walk.specs.Told.{taken_as};
 ghost use Rattle.listing_walk.specs.Seen.{EndsInside, named_body, take_table, take_sgpd, taken_of, told_named, told_visited};
 
-use base_fields::refusal::Refusal;
-use atom_tree::BodyAt;
-use super::{Seen};
-use atom_tree::{AtomHeader};
+use super::Seen;
+use atom_tree::{AtomHeader, BodyAt};
 use base_fields::read_u32;
+use base_fields::refusal::Refusal;
 use table_front::TableKind;
 
 // Types of children, four bytes as one number.
@@ -21,9 +21,14 @@ const CSGP: u32 = 0x6373_6770;
 const SGPD: u32 = 0x7367_7064;
 
 // The body of a child that is looked at: open 8, under 8 bytes `short`, then by its grouping type.
-fn named_body(s: &[u8], grouping_type: u32, short: u32, h: AtomHeader) -> Result<Option<BodyAt>, Refusal>
+fn named_body(
+    s: &[u8],
+    grouping_type: u32,
+    short: Refusal,
+    h: AtomHeader,
+) -> Result<Option<BodyAt>, Refusal>
     requires { EndsInside (length s.now) (header_of h) }
-    ensures { told_named result ≡ named_body s.now grouping_type short (header_of h) }
+    ensures { told_named result ≡ named_body s.now grouping_type (number short) (header_of h) }
 {
     let total = h.total_size;
     match total {
@@ -45,45 +50,49 @@ fn named_body(s: &[u8], grouping_type: u32, short: u32, h: AtomHeader) -> Result
 }
 
 // A table is taken; 51 where there is one already.
-fn take_table(seen: Seen, kind: TableKind, place: u64, size: u64) -> Result<Seen, Refusal>
-    ensures { told_visited result ≡ take_table (taken_as kind) (taken_of seen) (record { place = place; size = size }) }
+fn take_table(seen: Seen, kind: TableKind, body: BodyAt) -> Result<Seen, Refusal>
+    ensures { told_visited result ≡ take_table (taken_as kind) (taken_of seen) (span_of body) }
 {
     let table = seen.table;
     let sgpd = seen.sgpd;
     match table {
         None => Ok(Seen {
-            table: Some(kind, place, size),
+            table: Some((kind, body)),
             sgpd,
         }),
-        Some(_, _, _) => Err(Refusal::SecondTable),
+        Some(_) => Err(Refusal::SecondTable),
     }
 }
 
 // An sgpd is taken; 53 where there is one already.
-fn take_sgpd(seen: Seen, place: u64, size: u64) -> Result<Seen, Refusal>
-    ensures { told_visited result ≡ take_sgpd (taken_of seen) (record { place = place; size = size }) }
+fn take_sgpd(seen: Seen, body: BodyAt) -> Result<Seen, Refusal>
+    ensures { told_visited result ≡ take_sgpd (taken_of seen) (span_of body) }
 {
     let table = seen.table;
     let sgpd = seen.sgpd;
     match sgpd {
         None => Ok(Seen {
             table,
-            sgpd: Some(BodyAt { place, size }),
+            sgpd: Some(body),
         }),
-        Some(BodyAt { place: _, size: _ }) => Err(Refusal::SecondSgpd),
+        Some(_) => Err(Refusal::SecondSgpd),
     }
 }
 
 // An sbgp or a csgp: taken where it has the named type.
-fn visit_table(s: &[u8], grouping_type: u32, kind: TableKind, h: AtomHeader, seen: Seen) -> Result<Seen, Refusal>
+fn visit_table(
+    s: &[u8],
+    grouping_type: u32,
+    kind: TableKind,
+    h: AtomHeader,
+    seen: Seen,
+) -> Result<Seen, Refusal>
     requires { EndsInside (length s.now) (header_of h) }
     ensures { told_visited result ≡ visit_table s.now grouping_type (taken_as kind) (header_of h) (taken_of seen) }
 {
-    let body = named_body(s, grouping_type, 20, h);
-    match body {
-        Ok(Some(BodyAt { place, size })) => take_table(seen, kind, place, size),
-        Ok(None) => Ok(seen),
-        Err(n) => Err(n),
+    match named_body(s, grouping_type, Refusal::ShortTable, h)? {
+        Some(body) => take_table(seen, kind, body),
+        None => Ok(seen),
     }
 }
 
@@ -92,11 +101,9 @@ fn visit_sgpd(s: &[u8], grouping_type: u32, h: AtomHeader, seen: Seen) -> Result
     requires { EndsInside (length s.now) (header_of h) }
     ensures { told_visited result ≡ visit_sgpd s.now grouping_type (header_of h) (taken_of seen) }
 {
-    let body = named_body(s, grouping_type, 30, h);
-    match body {
-        Ok(Some(BodyAt { place, size })) => take_sgpd(seen, place, size),
-        Ok(None) => Ok(seen),
-        Err(n) => Err(n),
+    match named_body(s, grouping_type, Refusal::ShortSgpd, h)? {
+        Some(body) => take_sgpd(seen, body),
+        None => Ok(seen),
     }
 }
 
