@@ -1,4 +1,4 @@
--- Document 01's answer for each case of the enum of src/, and what a front that was read tells.
+-- What the result of read_front tells, and what a front that was read tells.
 use Rattle.std.specs.Prelude.{◌≡◌, List, ℕ, ◌+◌, Result}
 use Rattle.base_fields.specs.Answer.{Answer}
 use Rattle.base_fields.specs.Refusal.{told}
