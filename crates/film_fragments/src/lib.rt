@@ -7,8 +7,8 @@ ghost use Rattle.use_fragment_queue.specs.Held.{arrive, depart};
 ghost use Rattle.film_status.specs.Status.{Returns};
 ghost use Rattle.film_fragments.specs.Fragments.{GivesCall, GivesLookup, sum_numbers};
 
-use use_fragment_queue::Place;
 use base_ids::RowNumber;
+use use_fragment_queue::Place;
 
 // A fragment comes with its rows.
 pub fn film_fragment_arrive(queue: &mut [u64; 132], rows: &[RowNumber]) -> u32
@@ -35,7 +35,12 @@ pub fn film_fragment_lookup(queue: &[u64; 132], sample: u64, out: &mut [u64; 2])
     ensures { GivesLookup queue.now sample out.old out.new result }
 {
     match use_fragment_queue::fragment_lookup(queue, sample) {
-        Ok(Place { fragment, sample: within }) => {
+        Ok(
+            Place {
+                fragment,
+                sample: within,
+            },
+        ) => {
             out[0] = fragment;
             out[1] = within;
             0

@@ -2,25 +2,11 @@
 #![tactic(auto)]
 
 ghost use Rattle.table_repaint.specs.Repaint.{repainted, rows_counted};
-ghost use Rattle.table_repaint.specs.Repainted.{told_repainted};
 ghost use Rattle.film_status.specs.Status.{Returns, one_number};
 ghost use Rattle.film_repaint.specs.Repaint.{Repaints};
 
-use base_fields::refusal::Refusal;
 use base_ids::{DescriptionIndex, RowNumber};
-
-// Hands the number of rows out.
-fn put_rows(told: Result<usize, Refusal>, out: &mut [u64; 1]) -> u32
-    ensures { Returns (told_repainted told) one_number out.old out.new result }
-{
-    match told {
-        Ok(n) => {
-            out[0] = n as u64;
-            0
-        }
-        Err(refusal) => refusal.number(),
-    }
-}
+use film_status::put_number;
 
 // What the edit would return, and out: how many rows it would leave. Nothing else is written.
 pub fn film_preview_repaint(
@@ -33,10 +19,14 @@ pub fn film_preview_repaint(
 ) -> u32
     ensures { Returns (rows_counted (repainted rows.now stated a b index)) one_number out.old out.new result }
 {
-    put_rows(
-        table_repaint::preview_repaint(rows, stated as usize, a, b, DescriptionIndex(index)),
-        out,
-    )
+    let count = table_repaint::preview_repaint(
+        rows,
+        stated as usize,
+        a,
+        b,
+        DescriptionIndex(index),
+    );
+    put_number(count.map(|n| n as u64), out)
 }
 
 // The samples from a up to but not b get the index; the new rows stand in front of the run. out: how many they are.
@@ -50,8 +40,6 @@ pub fn film_repaint(
 ) -> u32
     ensures { Repaints (repainted rows.old stated a b index) rows.old rows.new out.old out.new result }
 {
-    put_rows(
-        table_repaint::repaint(rows, stated as usize, a, b, DescriptionIndex(index)),
-        out,
-    )
+    let count = table_repaint::repaint(rows, stated as usize, a, b, DescriptionIndex(index));
+    put_number(count.map(|n| n as u64), out)
 }

@@ -2,8 +2,8 @@
 use Rattle.film_fragments.proofs.Handed.{gives-lookup}
 use Rattle.film_fragments.proofs.film_fragment_lookup.Goals as goal
 
-pub returns-in-Place : goal.returns-in-Place
-returns-in-Place c = gives-lookup c.fragment_lookup.ensures c.in-Place.is
+pub returns-in-Ok : goal.returns-in-Ok
+returns-in-Ok c = gives-lookup c.fragment_lookup.ensures c.in-Ok.is
 
-pub returns-in-Refused : goal.returns-in-Refused
-returns-in-Refused c = gives-lookup c.fragment_lookup.ensures c.in-Refused.is
+pub returns-in-Err : goal.returns-in-Err
+returns-in-Err c = rw c.number.ensures (gives-lookup c.fragment_lookup.ensures c.in-Err.is)
