@@ -45,13 +45,11 @@ pub fn fill(s: &[u8], first: usize, count: usize, rows: &mut [RowNumber])
     requires { (first + 8 * count ≤ length s.now) × (record_numbers * count ≤ length rows.old) }
     ensures { rows.new ≡ flat (read_rows count s.now first) ++ drop (record_numbers * count) rows.old }
 {
-    let mut k: usize = 0;
-    while k < count {
+    for k in 0..count {
         let at = first + 8 * k;
         let sample_count = base_fields::read_u32(s, at);
         let index = base_fields::read_u32(s, at + 4);
         put_row(rows, k, sample_count, index);
-        k = k + 1;
     }
 }
 
