@@ -37,18 +37,16 @@ fn last_number(s: &[u8], count: u32, limit: u64) -> Result<u32, Refusal>
     requires { (8 + 4 * count ≤ length s.now) × (length s.now ≤ input_limit) × (count ≡ be_at 4 s.now 4) }
     ensures { told_value result ≡ and_then (stss s.now) (λ numbers. given (last_up_to limit numbers)) }
 {
-    let mut k: u32 = 0;
     // The smallest number that may follow.
     let mut least: u64 = 1;
     let mut found: u32 = 0;
-    while k < count {
+    for k in 0..count {
         let number = read_u32(s, 8 + 4 * (k as usize));
         if (number as u64) < least {
             return Err(Refusal::SyncNotRising);
         }
         found = later(found, number, limit);
         least = number as u64 + 1;
-        k = k + 1;
     }
     Ok(found)
 }

@@ -25,7 +25,7 @@ there : (c : At-loop-k) → let s = c.args.s.now in 8 + 4 * be_at 4 s 4 ≤ leng
 there c = omega (arith, c.requires.0, c.requires.2)
 
 pub loop-k-init : goal.loop-k-init
-loop-k-init c = (omega arith, omega arith, none_passed _ _)
+loop-k-init c = (omega arith, none_passed _ _)
 
 pub overflow_mul-k : goal.overflow_mul-k
 overflow_mul-k c = omega (arith, c.requires.0, c.requires.1, c.loop-k-test.true)
@@ -40,13 +40,13 @@ pub returns-then-number-least : goal.returns-then-number-least
 returns-then-number-least c = let s = c.args.s.now in
     number-refused s c.args.limit
     (stss-falls s c.requires.1 (there (goal.at.returns-then-number-least c).At-loop-k)
-    (one-falls c.args.limit _ c.loop-k.invariant.2 (omega (arith, numbers (goal.at.returns-then-number-least c).At-loop-k, c.loop-k-test.true)) (omega (arith, number (goal.at.returns-then-number-least c).After-read_u32-number, c.if-number-least.true))))
+    (one-falls c.args.limit _ c.loop-k.invariant.1 (omega (arith, numbers (goal.at.returns-then-number-least c).At-loop-k, c.loop-k-test.true)) (omega (arith, number (goal.at.returns-then-number-least c).After-read_u32-number, c.if-number-least.true))))
 
 pub loop-k-preserved : goal.loop-k-preserved
-loop-k-preserved c = let next = one-passed c.args.limit _ c.loop-k.invariant.2 (omega (arith, numbers (goal.at.loop-k-preserved c).At-loop-k, c.loop-k-test.true)) (omega (arith, number (goal.at.loop-k-preserved c).After-read_u32-number, c.if-number-least.false)) in
-    (omega (arith, c.loop-k-test.true), omega arith, passed-before c.args.limit _ {last = c.read_u32-number.result} (rw c.later-found.ensures (rw (number (goal.at.loop-k-preserved c).After-read_u32-number) at next)) (omega arith))
+loop-k-preserved c = let next = one-passed c.args.limit _ c.loop-k.invariant.1 (omega (arith, numbers (goal.at.loop-k-preserved c).At-loop-k, c.loop-k-test.true)) (omega (arith, number (goal.at.loop-k-preserved c).After-read_u32-number, c.if-number-least.false)) in
+    (omega arith, passed-before c.args.limit _ {last = c.read_u32-number.result} (rw c.later-found.ensures (rw (number (goal.at.loop-k-preserved c).After-read_u32-number) at next)) (omega arith))
 
 pub returns : goal.returns
 returns c = let s = c.args.s.now in
-    let all = all-passed c.args.limit (numbers_in s) c.loop-k.invariant.2 (omega (arith, numbers (goal.at.returns c).At-loop-k, c.loop-k-test.false, c.loop-k.invariant.0)) in
+    let all = all-passed c.args.limit (numbers_in s) c.loop-k.invariant.1 (omega (arith, numbers (goal.at.returns c).At-loop-k, c.loop-k-test.false)) in
     number-given s c.args.limit (stss-rises s c.requires.1 (there (goal.at.returns c).At-loop-k) all.0) all.1
