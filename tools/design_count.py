@@ -1,6 +1,7 @@
 #!/usr/bin/env python3
 """Counts the places of docs/DESIGN-PASS.md in the crates' src/: design_count.py [-v] [COMMIT], by default the files as they stand; -v names each place."""
 import collections
+import itertools
 import re
 import subprocess
 import sys
@@ -32,9 +33,9 @@ def functions(text):
 PLACES = collections.OrderedDict((k, []) for k in (
     "1a enums of the shape of Option or Result", "1b flags in structs", "1c refusals and kinds as numbers",
     "2 functions alike but for names and numbers", "3 loops that count an index by hand",
-    "4 minimum, maximum, truth values and conversions by hand", "5a facts required by three functions or more", "5b parameters that travel together in three functions or more",
+    "4 minimum, maximum, truth values and conversions by hand", "5a facts required by three functions or more", "5b three parameters that travel together in three functions or more",
     "6 place and length beside one another, arrays of a fixed length", "7 a switch handed to a function"))
-BODIES, FACTS, PAIRS = collections.defaultdict(list), collections.defaultdict(list), collections.defaultdict(list)
+BODIES, FACTS, TRIPLES = collections.defaultdict(list), collections.defaultdict(list), collections.defaultdict(list)
 
 for name, text in files():
     for m in re.finditer(r"(?m)^(?:pub(?:\(crate\))? )?enum (\w+)(?:<[^>]*>)? \{\n((?:[^}]|\}[^\n])*?)^\}", text):
@@ -69,13 +70,12 @@ for name, text in files():
         params = [" ".join(p.split()) for p in re.findall(r"(\w+: [^,()]+(?:\([^)]*\))?)", head)]
         for p in ("bool", "TableKind", "EntryLayout"):
             PLACES["7 a switch handed to a function"] += [f"{where} {q}" for q in params if q.endswith(": " + p)]
-        for i, p in enumerate(params):
-            for q in params[i + 1:]:
-                PAIRS[(p, q)].append(where)
+        for three in itertools.combinations(params, 3):
+            TRIPLES[three].append(where)
 
 PLACES["2 functions alike but for names and numbers"] = [" = ".join(w) for w in BODIES.values() if len(w) > 1]
 PLACES["5a facts required by three functions or more"] = [f"{f}: {len(w)}" for f, w in FACTS.items() if len(w) > 2]
-PLACES["5b parameters that travel together in three functions or more"] = [f"{p}, {q}: {len(w)}" for (p, q), w in PAIRS.items() if len(w) > 2]
+PLACES["5b three parameters that travel together in three functions or more"] = [f"{', '.join(t)}: {len(w)}" for t, w in TRIPLES.items() if len(w) > 2]
 for title, places in PLACES.items():
     print(f"{len(places):4} {title}")
     if LONG:
