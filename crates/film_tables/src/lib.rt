@@ -12,6 +12,7 @@ ghost use Rattle.film_tables.specs.Tables.{Fills, head_numbers};
 
 use base_fields::refusal::Refusal;
 use base_ids::{RowNumber, SampleCount, SampleNumber};
+use film_status::put_number;
 use table_rows::SampleToGroup;
 
 // Hands a table's head out.
@@ -20,8 +21,8 @@ fn put_head(parsed: Result<SampleToGroup, Refusal>, out: &mut [u64; 3]) -> u32
 {
     match parsed {
         Ok(t) => {
-            out[0] = t.grouping_type as u64;
-            out[1] = t.grouping_type_parameter as u64;
+            out[0] = u64::from(t.grouping_type);
+            out[1] = u64::from(t.grouping_type_parameter);
             out[2] = t.entry_count as u64;
             0
         }
@@ -43,31 +44,18 @@ pub fn film_parse_csgp(s: &[u8], rows: &mut [RowNumber], out: &mut [u64; 3]) -> 
     put_head(table_csgp::parse_csgp(s, rows), out)
 }
 
-// Hands the number of rows out.
-fn put_needed(needed: Result<usize, Refusal>, out: &mut [u64; 1]) -> u32
-    ensures { Returns (told_value needed) one_number out.old out.new result }
-{
-    match needed {
-        Ok(n) => {
-            out[0] = n as u64;
-            0
-        }
-        Err(refusal) => refusal.number(),
-    }
-}
-
 // out: the number of rows that an sbgp payload needs.
 pub fn film_sbgp_rows_needed(s: &[u8], out: &mut [u64; 1]) -> u32
     ensures { Returns (rows_needed parse_sbgp s.now) one_number out.old out.new result }
 {
-    put_needed(table_needed::sbgp_rows_needed(s), out)
+    put_number(table_needed::sbgp_rows_needed(s).map(|n| n as u64), out)
 }
 
 // The same for a csgp payload.
 pub fn film_csgp_rows_needed(s: &[u8], out: &mut [u64; 1]) -> u32
     ensures { Returns (rows_needed parse_csgp s.now) one_number out.old out.new result }
 {
-    put_needed(table_needed::csgp_rows_needed(s), out)
+    put_number(table_needed::csgp_rows_needed(s).map(|n| n as u64), out)
 }
 
 // out: the index of the row that covers the sample (counted from 0), 0 past the end.
@@ -79,25 +67,12 @@ pub fn film_group_index_for_sample(
     ensures { Returns (lookup rows.now sample) one_number out.old out.new result }
 {
     let found = table_rows::group_index_for_sample(rows, SampleNumber(sample));
-    match found {
-        Ok(i) => {
-            out[0] = i.0 as u64;
-            0
-        }
-        Err(refusal) => refusal.number(),
-    }
+    put_number(found.map(|index| u64::from(index.0)), out)
 }
 
 // out: the samples that the rows cover.
 pub fn film_covered_samples(rows: &[RowNumber], out: &mut [u64; 1]) -> u32
     ensures { Returns (total rows.now) one_number out.old out.new result }
 {
-    let covered = table_rows::covered_samples(rows);
-    match covered {
-        Ok(n) => {
-            out[0] = n;
-            0
-        }
-        Err(refusal) => refusal.number(),
-    }
+    put_number(table_rows::covered_samples(rows), out)
 }
