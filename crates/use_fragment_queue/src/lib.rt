@@ -106,8 +106,7 @@ pub fn fragment_lookup(queue: &[u64; 132], sample: u64) -> Result<Place, Refusal
     }
     let mut at = (queue[0] % 64) as usize;
     let mut left = sample;
-    let mut j: u64 = 0;
-    while j < count {
+    for j in 0..count {
         let covered = queue[4 + 2 * at];
         if left < covered {
             return Ok(Place {
@@ -115,9 +114,8 @@ pub fn fragment_lookup(queue: &[u64; 132], sample: u64) -> Result<Place, Refusal
                 sample: left,
             });
         }
-        left = left - covered;
+        left -= covered;
         at = (at + 1) % 64;
-        j = j + 1;
     }
     Err(Refusal::NotInQueue)
 }

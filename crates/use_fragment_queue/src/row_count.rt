@@ -29,19 +29,16 @@ fn member_samples(index: u32, n: u64) -> u64
 pub fn count_fragment(rows: &[RowNumber]) -> Result<FragmentSamples, Refusal>
     ensures { told_counted result ≡ counts (rows_of rows.now) }
 {
-    let records = record_count(rows);
     let mut covered: u64 = 0;
     let mut members: u64 = 0;
-    let mut k: usize = 0;
-    while k < records {
+    for k in 0..record_count(rows) {
         let n = count_at(rows, k) as u64;
         if COVER_LIMIT - covered < n {
             return Err(Refusal::RowCountOver);
         }
         let m = member_samples(description_at(rows, k), n);
-        covered = covered + n;
-        members = members + m;
-        k = k + 1;
+        covered += n;
+        members += m;
     }
     Ok(FragmentSamples { covered, members })
 }

@@ -1,10 +1,6 @@
 -- The loop's invariant: the walk over the ring is the one from this slot on.
-use Prim.Native.Nat.{◌-◌}
 use Rattle.use_fragment_queue.proofs.Walk.{Ahead}
 use Rattle.use_fragment_queue.proofs.fragment_lookup.Given as goal
 
 abbrev pub invariant-loop-j : goal.invariant-loop-j
 invariant-loop-j l = Ahead l.queue l.initial.at l.count l.sample l.at l.left l.j
-
-abbrev pub decreases-loop-j : goal.decreases-loop-j
-decreases-loop-j l = l.count - l.j
