@@ -1,12 +1,12 @@
 -- Two payloads: the order in which their answers are asked for, and that the entry lies within the one that has it.
-use mathlib.Core.Path.{◌≡◌, refl, ◌∙◌}
+use mathlib.Core.Path.{◌≡◌, refl}
 use mathlib.Core.Bool.{Bool, true, false}
 use mathlib.Core.List.{List}
 use Prim.Native.Nat.{ℕ, ◌+◌, ◌≤◌}
 use lib.Dec.{ltb}
 use lib.ListN.{length}
 use Rattle.base_fields.specs.Answer.{Answer, given, none, refused, choose, and_then, input_limit}
-use Rattle.base_fields.proofs.Answers.{Holds, holds-refuse_if, holds-choose, holds-given, and_then_assoc, and_then-same, holds-and_then}
+use Rattle.base_fields.proofs.Answers.{Holds, holds-refuse_if, holds-choose, holds-given, and_then_assoc, holds-and_then}
 use Rattle.group_sgpd.specs.Sgpd.{Description, sgpd, parse_sgpd, pick, entry_at}
 use Rattle.base_fields.specs.Span.{Span}
 use Rattle.group_sgpd.proofs.ByNumber.{Settled, sgpd-settled, Unrefused, pick-unrefused, entry-inside}

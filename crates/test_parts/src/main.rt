@@ -6,7 +6,6 @@ mod listing;
 mod structs;
 
 use base_ids::DescriptionIndex;
-use group_fragments::FoundPart;
 use std::io;
 use table_front::TableKind;
 use table_runs::{first_run, next_run, read_table};
@@ -40,10 +39,8 @@ fn is_two(part: &[u8], a: u8, b: u8) -> bool {
 // The refusal of the lookup over two descriptions; 0 where there is none.
 fn refusal(film: &[u8], fragment: &[u8], raw: u32) -> u32 {
     match group_fragments::described_place(film, fragment, raw) {
-        FoundPart::Refused(n) => n,
-        FoundPart::Film(_, _) => 0,
-        FoundPart::Fragment(_, _) => 0,
-        FoundPart::Nothing => 0,
+        Ok(_) => 0,
+        Err(refusal) => refusal.number(),
     }
 }
 

@@ -3,11 +3,10 @@ use Rattle.std.specs.Prelude.{Option, Some, None, Ok}
 use Rattle.base_fields.specs.Answer.{refused}
 use Rattle.base_fields.specs.declared.Part as parts
 use Rattle.group_fragments.proofs.Two.{film_first, film-first}
-use Rattle.group_fragments.specs.Fragments.{Part}
 use Rattle.group_sgpd.specs.Told.{told_entry}
 use Rattle.group_sgpd.proofs.Heads.{handed}
 use Prim.Native.Nat.{ℕ}
-use mathlib.Core.Path.{◌≡◌, refl, sym, ◌∙◌}
+use mathlib.Core.Path.{◌≡◌, refl, ◌∙◌}
 use Rattle.group_fragments.proofs.in_film.Goals as goal
 
 -- the fragment's refusal stays, whatever the film's answer is
