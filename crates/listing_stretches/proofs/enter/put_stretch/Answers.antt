@@ -1,6 +1,6 @@
 -- The length and the kind, and behind kind 2 the value.
 use mathlib.Core.Path.{subst}
-use Prim.Native.Nat.{ℕ, ◌+◌, ◌^◌, ◌≤◌, ◌<◌}
+use Prim.Native.Nat.{◌+◌, ◌^◌, ◌≤◌, ◌<◌}
 use native.Mathlib.Omega.{arith}
 use Rattle.listing_numbers.proofs.Stores.{number-near, number-near_64}
 use Rattle.listing_meanings.specs.Meant.{entry_meaning, Means}
