@@ -174,12 +174,10 @@ fn same_bytes(a: &[u8], b: &[u8], n: usize) -> bool
     if 4 <= n {
         return same_fours(a, b, n);
     }
-    let mut i: usize = 0;
-    while i < n {
+    for i in 0..n {
         if a[i] != b[i] {
             return false;
         }
-        i += 1;
     }
     true
 }

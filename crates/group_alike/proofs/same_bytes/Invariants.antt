@@ -1,10 +1,6 @@
 -- By length; of fewer than four bytes those before `i` are the same, and a byte that is the same is joined to them.
-use Prim.Native.Nat.{◌-◌, ◌≤◌}
 use Rattle.group_alike.specs.Front.{Over}
 use Rattle.group_alike.proofs.same_bytes.Given as goal
 
 abbrev pub invariant-loop-i : goal.invariant-loop-i
-invariant-loop-i l = (l.i ≤ l.n) × Over l.a l.b 0 l.i
-
-abbrev pub decreases-loop-i : goal.decreases-loop-i
-decreases-loop-i l = l.n - l.i
+invariant-loop-i l = Over l.a l.b 0 l.i
