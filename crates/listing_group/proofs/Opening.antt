@@ -26,7 +26,7 @@ use Rattle.listing_walk.specs.Told.{taken_as, sources_of}
 use Rattle.listing_walk.specs.declared.SourcesAt.{SourcesAt}
 use Rattle.listing_walk.proofs.Stand.{table-stands, sgpd-stands}
 use Rattle.listing_group.specs.Opened.{room_of, count_of, Opened}
-use Rattle.listing_group.specs.declared.Records.{Records}
+use Rattle.std.specs.Prelude.{Option}
 use Rattle.listing_group.specs.declared.GroupAt.{GroupAt}
 
 -- the taken table by its kind
@@ -42,7 +42,7 @@ module _ (s : List ℕ) (b : Span) where
   parsed_as Csgp (table.Rows h) room k = absurd k
   parsed_as Csgp (table.Patterns h) room k = refl
 
-module _ (s : List ℕ) (t : ℕ) (lent : Records) (f : SourcesAt) (found : given (sources_of f) ≡ sources s t) where
+module _ (s : List ℕ) (t : ℕ) (lent : Option ℕ) (f : SourcesAt) (found : given (sources_of f) ≡ sources s t) where
   abbrev table_at : Span
   table_at = record { place = f.table_place; size = f.table_size }
 

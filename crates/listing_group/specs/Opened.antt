@@ -1,6 +1,8 @@
 -- A group that is opened: the definition's answer, and where the payloads stand whose parts it is made of.
-use Rattle.std.specs.Prelude.{ℕ, ◌+◌, ◌≤◌, ◌≡◌, List, length}
+use Rattle.std.specs.Prelude.{ℕ, ◌+◌, ◌≤◌, ◌≡◌, List, length, Option, Some, None, Result, Ok, Err}
 use Rattle.base_fields.specs.Answer.{given, refused}
+use Rattle.base_fields.specs.Refusal.{number}
+use Rattle.base_fields.specs.declared.refusal.Refusal.{Refusal}
 use Rattle.base_fields.specs.Span.{Span, bytes_at}
 use Rattle.group_sgpd.specs.Head.{ReadWhole}
 use Rattle.table_rows.specs.Row.{Row, Table}
@@ -11,21 +13,17 @@ use Rattle.table_needed.specs.Needed.{unlimited}
 use Rattle.listing_spec.specs.Walk.{TakenTable, sources}
 use Rattle.listing_spec.specs.Table.{entries_of}
 use Rattle.listing_spec.specs.Group.{Group, group_taken}
-use Rattle.listing_group.specs.declared.Records.{Records}
-use Rattle.listing_group.specs.declared.Records.TheVariants as records
 use Rattle.listing_group.specs.declared.GroupAt.{GroupAt}
-use Rattle.listing_group.specs.declared.OpenGroup.{OpenGroup}
-use Rattle.listing_group.specs.declared.OpenGroup.TheVariants as opened
 
--- how many records there are
-abbrev pub room_of : Records → ℕ
-room_of (records.Lent n) = n
-room_of records.Enough = unlimited
+-- how many records there are: those that are lent, or enough
+abbrev pub room_of : Option ℕ → ℕ
+room_of (Some n) = n
+room_of None = unlimited
 
 -- what is counted: the rows, where records are lent for them; else the samples that the patterns cover
-abbrev pub count_of : Records → List Row → List Pattern → ℕ
-count_of (records.Lent n) rows patterns = length rows
-count_of records.Enough rows patterns = covered_by patterns
+abbrev pub count_of : Option ℕ → List Row → List Pattern → ℕ
+count_of (Some n) rows patterns = length rows
+count_of None rows patterns = covered_by patterns
 
 abbrev pub table_span : GroupAt → Span
 table_span at = record { place = at.table_place; size = at.table_size }
@@ -45,7 +43,7 @@ pub record Holds (ts ds : List ℕ) (room : ℕ) (at : GroupAt) (g : Group) : Ty
   pub made : (x : Table) × (table_from ts at.table room ≡ given x) × (x.rows ≡ g.rows)
   pub entries : entries_of ds ≡ given g.entries
 
-pub record Opened (s : List ℕ) (t : ℕ) (lent : Records) (at : GroupAt) : Type 0 where
+pub record Opened (s : List ℕ) (t : ℕ) (lent : Option ℕ) (at : GroupAt) : Type 0 where
   pub group : Group
   pub told : group_taken s t (room_of lent) ≡ given group
   -- the sgpd is the one that the walk takes
@@ -55,6 +53,6 @@ pub record Opened (s : List ℕ) (t : ℕ) (lent : Records) (at : GroupAt) : Typ
   pub sgpd : Inside s (sgpd_span at)
   pub holds : Holds (bytes_at s (table_span at)) (bytes_at s (sgpd_span at)) (room_of lent) at group
 
-abbrev pub GivesGroup : List ℕ → ℕ → Records → OpenGroup → Type 0
-GivesGroup s t lent (opened.Group at) = Opened s t lent at
-GivesGroup s t lent (opened.Refused n) = group_taken s t (room_of lent) ≡ refused n
+abbrev pub GivesGroup : List ℕ → ℕ → Option ℕ → Result GroupAt Refusal → Type 0
+GivesGroup s t lent (Ok at) = Opened s t lent at
+GivesGroup s t lent (Err refusal) = group_taken s t (room_of lent) ≡ refused (number refusal)

@@ -4,18 +4,18 @@
 
 ghost use Rattle.std.specs.Prelude.{◌≡◌};
 ghost use Rattle.base_fields.specs.Answer.{given, and_then};
+ghost use Rattle.base_fields.specs.Refusal.{told_value};
 ghost use Rattle.table_rows.specs.Pattern.{covered_by};
 ghost use Rattle.table_records.specs.Lent.{table_from};
 ghost use Rattle.table_runs.specs.Ahead.{all_in, ahead_in, WholeIn, LaidIn};
 ghost use Rattle.table_needed.specs.Needed.{unlimited};
 ghost use Rattle.listing_group.specs.Opened.{room_of, count_of, GivesGroup};
-ghost use Rattle.listing_group.specs.Told.{told_counts, told_counted};
 
-use base_fields::refusal::Refusal;
 use base_fields::bytes_at;
+use base_fields::refusal::Refusal;
 use base_ids::COUNT_LIMIT;
 use group_sgpd::{SgpdHead, read_sgpd};
-use listing_walk::{find_sources};
+use listing_walk::find_sources;
 use table_needed::UNLIMITED;
 use table_records::count_rows;
 use table_runs::{SampleTable, count_samples, read_table};
@@ -37,46 +37,42 @@ pub struct GroupAt {
 // counted.
 fn check_counts(table_s: &[u8], table: SampleTable, covered: u64) -> Result<(), Refusal>
     requires { (LaidIn table_s.now table) × (covered ≡ covered_by (ahead_in table_s.now table (all_in table))) }
-    ensures { told_counts result ≡ and_then (table_from table_s.now table unlimited) (λ x. given tt) }
+    ensures { told_value result ≡ and_then (table_from table_s.now table unlimited) (λ x. given tt) }
 {
     if covered <= COUNT_LIMIT as u64 {
         return Ok(());
     }
-    match count_rows(table_s, table, UNLIMITED) {
-        Ok(_) => Ok(()),
-        Err(n) => Err(n),
-    }
+    count_rows(table_s, table, UNLIMITED)?;
+    Ok(())
 }
 
 // 28, 29; else what is counted of the table.
-fn count_table(table_s: &[u8], table: SampleTable, records: Option<usize>) -> Result<u64, Refusal>
+fn count_table(table_s: &[u8], table: SampleTable, lent: Option<usize>) -> Result<u64, Refusal>
     requires { (WholeIn table_s.now table (all_in table)) × (LaidIn table_s.now table) }
-    ensures { told_counted result ≡ and_then (table_from table_s.now table (room_of records)) (λ x. given (count_of records x.rows (ahead_in table_s.now table (all_in table)))) }
+    ensures { told_value result ≡ and_then (table_from table_s.now table (room_of lent)) (λ x. given (count_of lent x.rows (ahead_in table_s.now table (all_in table)))) }
 {
-    match records {
-        Some(room) => match count_rows(table_s, table, room) {
-            Ok(n) => Ok(n as u64),
-            Err(n) => Err(n),
-        },
+    match lent {
+        Some(room) => {
+            let rows = count_rows(table_s, table, room)?;
+            Ok(rows as u64)
+        }
         None => {
             let covered = count_samples(table_s, table);
-            match check_counts(table_s, table, covered) {
-                Ok(()) => Ok(covered),
-                Err(n) => Err(n),
-            }
+            check_counts(table_s, table, covered)?;
+            Ok(covered)
         }
     }
 }
 
-// Opens the group: the walk's refusals, the table's, those of its rows, the sgpd's.
-pub fn open_group(body: &[u8], grouping_type: u32, records: Option<usize>) -> Result<GroupAt, Refusal>
-    ensures { GivesGroup body.now grouping_type records result }
+// Opens the group: the walk's refusals, the table's, those of its rows, the sgpd's. So many records are lent for the rows; none: there are enough.
+pub fn open_group(body: &[u8], grouping_type: u32, lent: Option<usize>) -> Result<GroupAt, Refusal>
+    ensures { GivesGroup body.now grouping_type lent result }
 {
     let found = find_sources(body, grouping_type)?;
     let kind = found.kind;
     let table_s = bytes_at(body, found.table_place, found.table_size);
     let table = read_table(table_s, kind)?;
-    let count = count_table(table_s, table, records)?;
+    let count = count_table(table_s, table, lent)?;
     let head = read_sgpd(bytes_at(body, found.sgpd_place, found.sgpd_size))?;
     Ok(GroupAt {
         table_place: found.table_place,
