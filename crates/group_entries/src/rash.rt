@@ -72,14 +72,12 @@ fn put_points(payload: &[u8], count: usize, run: &mut [u32])
     requires fact { (point_count payload.now ≡ 1) → ⊥ }
     ensures { run.new ≡ in_front (numbers_of (λ p. p.bitrate) (λ p. p.share) (up_to (point_at payload.now) 0 count)) run.old }
 {
-    let mut k: usize = 0;
-    while k < count {
+    for k in 0..count {
         let at = 2 + 6 * k;
         let bitrate = base_fields::read_u32(payload, at);
         let share = base_fields::read_u16(payload, at + 4);
         run[2 * k] = bitrate;
         run[2 * k + 1] = share as u32;
-        k = k + 1;
     }
 }
 
