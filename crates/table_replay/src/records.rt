@@ -11,14 +11,10 @@ pub fn copy_rows(rows: &mut [RowNumber], from: usize, to: usize, end: usize)
     requires { (record_numbers * end ≤ length rows.old) × (to < end → (0 < from) × (from ≤ to)) }
     ensures { rows.new ≡ copied (end - to) (from - 1) (to - 1) rows.old }
 {
-    let mut i = from;
-    let mut j = to;
-    while j < end {
-        let at = i - 1;
+    for j in to..end {
+        let at = from + (j - to) - 1;
         let count = count_at(rows, at);
         let index = description_at(rows, at);
         put_row(rows, j - 1, count, index);
-        i = i + 1;
-        j = j + 1;
     }
 }

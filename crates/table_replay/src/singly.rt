@@ -71,17 +71,19 @@ pub fn enter_singly(s: &[u8], pattern: PatternAt, state: ReplayState, room: usiz
     let last = last_of_period(pattern, state.sample, turn);
     let mut at = pattern.indices + step * (turn as usize);
     let mut tail = state.tail;
-    let mut sample = state.sample;
-    while sample < last {
+    for sample in state.sample..last {
         let index = read_index(s, at, pattern);
         tail = match enter_single(tail, room, index) {
             Some(next) => next,
             None => return ReplayState { tail, sample, mark },
         };
-        at = at + step;
-        sample = sample + 1;
+        at += step;
     }
-    ReplayState { tail, sample, mark }
+    ReplayState {
+        tail,
+        sample: last,
+        mark,
+    }
 }
 
 // The same, with their rows written.
@@ -107,16 +109,18 @@ pub fn write_singly(
     let last = last_of_period(pattern, state.sample, turn);
     let mut at = pattern.indices + step * (turn as usize);
     let mut tail = state.tail;
-    let mut sample = state.sample;
-    while sample < last {
+    for sample in state.sample..last {
         let index = read_index(s, at, pattern);
         tail = match enter_single(tail, room, index) {
             Some(next) => next,
             None => return ReplayState { tail, sample, mark },
         };
         put_row(rows, tail.rows - 1, tail.count, tail.index);
-        at = at + step;
-        sample = sample + 1;
+        at += step;
     }
-    ReplayState { tail, sample, mark }
+    ReplayState {
+        tail,
+        sample: last,
+        mark,
+    }
 }

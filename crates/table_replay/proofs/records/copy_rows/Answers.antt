@@ -1,20 +1,21 @@
-use mathlib.Core.Path.{refl, ap, sym, ◌∙◌}
-use Prim.Native.Nat.{◌≤◌, ◌<◌}
+use mathlib.Core.Path.{◌≡◌, refl, sym, ◌∙◌}
+use Prim.Native.Nat.{◌+◌, ◌-◌, ◌≤◌, ◌<◌}
 use native.Mathlib.Omega.{arith}
-use lib.ListN.{length}
-use Rattle.table_rows.proofs.Rows.{put-length}
 use Rattle.table_replay.proofs.Copying.{copied-one, copied-end}
 use Rattle.table_replay.proofs.records.copy_rows.Goals as goal
 use Rattle.table_replay.proofs.records.copy_rows.Goals.{In-loop-j}
 
-behind : (c : In-loop-j) → (0 < c.loop-j.i) × (c.loop-j.i ≤ c.loop-j.j)
-behind c = c.loop-j.invariant.1 c.loop-j-test.true
+behind : (c : In-loop-j) → (0 < c.args.from) × (c.args.from ≤ c.args.to)
+behind c = c.requires.1 (omega arith)
 
 pub loop-j-init : goal.loop-j-init
-loop-j-init c = (refl, c.requires.1, refl)
+loop-j-init c =
+    let a = c.args in
+    let e : a.from + (a.to - a.to) ≡ a.from = omega arith in
+    rw e refl
 
 pub overflow_sub-at : goal.overflow_sub-at
-overflow_sub-at c = let h = behind c in omega arith
+overflow_sub-at c = let h = behind (goal.at.overflow_sub-at c).In-loop-j in omega arith
 
 pub count_at-count-requires : goal.count_at-count-requires
 count_at-count-requires c = let h = behind (goal.at.count_at-count-requires c).In-loop-j in omega arith
@@ -28,28 +29,15 @@ overflow_sub-j c = let h = behind (goal.at.overflow_sub-j c).In-loop-j in omega 
 pub put_row-requires : goal.put_row-requires
 put_row-requires c = let h = behind (goal.at.put_row-requires c).In-loop-j in omega arith
 
-pub overflow_add-i : goal.overflow_add-i
-overflow_add-i c = let h = behind (goal.at.overflow_add-i c).In-loop-j in omega arith
-
-pub overflow_add-j : goal.overflow_add-j
-overflow_add-j c = let h = behind (goal.at.overflow_add-j c).In-loop-j in omega arith
-
-pub loop-j-smaller : goal.loop-j-smaller
-loop-j-smaller c = omega (arith, c.loop-j-test.true)
-
 pub loop-j-preserved : goal.loop-j-preserved
 loop-j-preserved c =
+    let a = c.args in
     let own = c.loop-j in
     let h = behind (goal.at.loop-j-preserved c).In-loop-j in
-    let q = c.put_row.ensures in
-    let p = rw (c.count_at-count.ensures, c.description_at-index.ensures) at q in (
-      sym (copied-one own.i own.j c.args.end own.rows h.0 h.1 c.loop-j-test.true p) ∙ own.invariant.0,
-      λ l. (omega arith, omega arith),
-      ap length q ∙ put-length _ _ _ _ ∙ own.invariant.2,
-    )
-
-pub shape_of-rows : goal.shape_of-rows
-shape_of-rows c = c.loop-j.invariant.2
+    let i = a.from + (own.j - a.to) in
+    let next : a.from + (own.j + 1 - a.to) ≡ i + 1 = omega arith in
+    let p = rw (c.count_at-count.ensures, c.description_at-index.ensures) at c.put_row.ensures in
+    rw next (sym (copied-one i own.j a.end own.rows (omega arith) (omega arith) c.loop-j-test.true p) ∙ own.invariant)
 
 pub returns : goal.returns
-returns c = sym (copied-end _ _ _ _ (omega (arith, c.loop-j-test.false))) ∙ c.loop-j.invariant.0
+returns c = sym (copied-end _ _ _ _ (omega (arith, c.loop-j-test.false))) ∙ c.loop-j.invariant

@@ -6,7 +6,7 @@ use native.Mathlib.Omega.{arith}
 use Rattle.table_patterns.proofs.Runs.{field_end}
 use Rattle.table_replay.specs.Enter.{GivesSingle}
 use Rattle.table_replay.specs.declared.enter.Tail.{Tail}
-use Rattle.table_replay.proofs.OneByOne.{next-onward, next-below, next-less, next_place, turn-index, singly-none, singly-on}
+use Rattle.table_replay.proofs.OneByOne.{next-onward, next_place, turn-index, singly-none, singly-on}
 use Rattle.table_replay.proofs.singly.enter_singly.Goals as goal
 use Rattle.table_replay.proofs.singly.enter_singly.Goals.{After-last_of_period-last, At-loop-sample, In-Some}
 
@@ -45,24 +45,21 @@ loop-sample-init c =
     let a = c.args in
     let turn = a.state.sample % a.pattern.length in
     let z : turn ≡ turn + (a.state.sample - a.state.sample) = omega arith in
-    (omega arith, c.last_of_period-last.ensures.onward, ap (λ (n : ℕ). a.pattern.indices + a.pattern.width * n) z, singly-none _ _ _)
+    (omega arith, ap (λ (n : ℕ). a.pattern.indices + a.pattern.width * n) z, singly-none _ _ _)
 
 pub read_index-index-requires : goal.read_index-index-requires
 read_index-index-requires c =
     let h = c.requires in
-    let e = c.loop-sample.invariant.2 in
+    let e = c.loop-sample.invariant.1 in
     (h, omega (arith, e), omega (arith, e, h.inside, turn_end (goal.at.read_index-index-requires c).After-last_of_period-last _ (turn_below (goal.at.read_index-index-requires c).At-loop-sample c.loop-sample-test.true)))
 
 pub returns-in-None : goal.returns-in-None
-returns-in-None c = c.loop-sample.invariant.3
+returns-in-None c = c.loop-sample.invariant.2
 
 pub overflow_add-at-in-loop-sample : goal.overflow_add-at-in-loop-sample
 overflow_add-at-in-loop-sample c =
     let h = c.requires in
-    omega (arith, c.loop-sample.invariant.2, h.inside, h.short, turn_end (goal.at.overflow_add-at-in-loop-sample c).After-last_of_period-last _ (turn_below (goal.at.overflow_add-at-in-loop-sample c).At-loop-sample c.loop-sample-test.true))
-
-pub loop-sample-smaller : goal.loop-sample-smaller
-loop-sample-smaller c = next-less _ _ c.loop-sample-test.true
+    omega (arith, c.loop-sample.invariant.1, h.inside, h.short, turn_end (goal.at.overflow_add-at-in-loop-sample c).After-last_of_period-last _ (turn_below (goal.at.overflow_add-at-in-loop-sample c).At-loop-sample c.loop-sample-test.true))
 
 pub loop-sample-preserved : goal.loop-sample-preserved
 loop-sample-preserved c =
@@ -71,12 +68,13 @@ loop-sample-preserved c =
     let a = c.args in
     let k = c.loop-sample.sample in
     let entered = next-tail (goal.at.loop-sample-preserved c).In-Some in
-    let index = turn-index a.s.now a.pattern a.state.sample k _ c.requires.some i.0 (turn_below (goal.at.loop-sample-preserved c).At-loop-sample c.loop-sample-test.true) i.2 ∙ sym c.read_index-index.ensures.0 in (
+    let index = turn-index a.s.now a.pattern a.state.sample k _ c.requires.some i.0 (turn_below (goal.at.loop-sample-preserved c).At-loop-sample c.loop-sample-test.true) i.1 ∙ sym c.read_index-index.ensures.0 in (
       next-onward _ _ i.0,
-      next-below _ _ c.loop-sample-test.true,
-      next_place a.pattern a.state.sample k _ i.0 i.2,
-      singly-on _ _ _ _ _ (lt_trans c.loop-sample-test.true l.within) index entered.enters i.3,
+      next_place a.pattern a.state.sample k _ i.0 i.1,
+      singly-on _ _ _ _ _ (lt_trans c.loop-sample-test.true l.within) index entered.enters i.2,
     )
 
 pub returns : goal.returns
-returns c = c.loop-sample.invariant.3
+returns c =
+    let e : c.last_of_period-last.result ≡ c.loop-sample.sample = omega (arith, c.last_of_period-last.ensures.onward) in
+    rw e c.loop-sample.invariant.2

@@ -7,7 +7,7 @@ use Rattle.table_rows.specs.Row.{records_in}
 use Rattle.table_patterns.proofs.Runs.{field_end}
 use Rattle.table_replay.specs.Enter.{GivesSingle}
 use Rattle.table_replay.specs.declared.enter.Tail.{Tail}
-use Rattle.table_replay.proofs.OneByOne.{next-onward, next-below, next-less, next_place, turn-index, written_none, written_on}
+use Rattle.table_replay.proofs.OneByOne.{next-onward, next_place, turn-index, written_none, written_on}
 use Rattle.table_replay.proofs.singly.write_singly.Goals as goal
 use Rattle.table_replay.proofs.singly.write_singly.Goals.{After-last_of_period-last, At-loop-sample, In-Some}
 
@@ -46,19 +46,19 @@ loop-sample-init c =
     let a = c.args in
     let turn = a.state.sample % a.pattern.length in
     let z : turn ≡ turn + (a.state.sample - a.state.sample) = omega arith in
-    (omega arith, c.last_of_period-last.ensures.onward, ap (λ (n : ℕ). a.pattern.indices + a.pattern.width * n) z, c.requires.1, refl, written_none _ _ _ _)
+    (omega arith, ap (λ (n : ℕ). a.pattern.indices + a.pattern.width * n) z, c.requires.1, refl, written_none _ _ _ _)
 
 pub read_index-index-requires : goal.read_index-index-requires
 read_index-index-requires c =
     let h = c.requires.0 in
-    let e = c.loop-sample.invariant.2 in
+    let e = c.loop-sample.invariant.1 in
     (h, omega (arith, e), omega (arith, e, h.inside, turn_end (goal.at.read_index-index-requires c).After-last_of_period-last _ (turn_below (goal.at.read_index-index-requires c).At-loop-sample c.loop-sample-test.true)))
 
 pub shape_of-rows-in-None : goal.shape_of-rows-in-None
-shape_of-rows-in-None c = c.loop-sample.invariant.4
+shape_of-rows-in-None c = c.loop-sample.invariant.3
 
 pub returns-in-None : goal.returns-in-None
-returns-in-None c = c.loop-sample.invariant.5
+returns-in-None c = c.loop-sample.invariant.4
 
 pub overflow_sub-tail : goal.overflow_sub-tail
 overflow_sub-tail c = (next-tail (goal.at.overflow_sub-tail c).In-Some).some
@@ -67,16 +67,13 @@ pub put_row-requires : goal.put_row-requires
 put_row-requires c =
     let i = c.loop-sample.invariant in
     let e = next-tail (goal.at.put_row-requires c).In-Some in
-    let r = e.roomy i.3 in
-    omega (arith, e.some, i.4)
+    let r = e.roomy i.2 in
+    omega (arith, e.some, i.3)
 
 pub overflow_add-at-in-loop-sample : goal.overflow_add-at-in-loop-sample
 overflow_add-at-in-loop-sample c =
     let h = c.requires.0 in
-    omega (arith, c.loop-sample.invariant.2, h.inside, h.short, turn_end (goal.at.overflow_add-at-in-loop-sample c).After-last_of_period-last _ (turn_below (goal.at.overflow_add-at-in-loop-sample c).At-loop-sample c.loop-sample-test.true))
-
-pub loop-sample-smaller : goal.loop-sample-smaller
-loop-sample-smaller c = next-less _ _ c.loop-sample-test.true
+    omega (arith, c.loop-sample.invariant.1, h.inside, h.short, turn_end (goal.at.overflow_add-at-in-loop-sample c).After-last_of_period-last _ (turn_below (goal.at.overflow_add-at-in-loop-sample c).At-loop-sample c.loop-sample-test.true))
 
 pub loop-sample-preserved : goal.loop-sample-preserved
 loop-sample-preserved c =
@@ -85,17 +82,18 @@ loop-sample-preserved c =
     let a = c.args in
     let k = c.loop-sample.sample in
     let entered = next-tail (goal.at.loop-sample-preserved c).In-Some in
-    let index = turn-index a.s.now a.pattern a.state.sample k _ c.requires.0.some i.0 (turn_below (goal.at.loop-sample-preserved c).At-loop-sample c.loop-sample-test.true) i.2 ∙ sym c.read_index-index.ensures.0 in (
+    let index = turn-index a.s.now a.pattern a.state.sample k _ c.requires.0.some i.0 (turn_below (goal.at.loop-sample-preserved c).At-loop-sample c.loop-sample-test.true) i.1 ∙ sym c.read_index-index.ensures.0 in (
       next-onward _ _ i.0,
-      next-below _ _ c.loop-sample-test.true,
-      next_place a.pattern a.state.sample k _ i.0 i.2,
-      entered.roomy i.3,
-      c.put_row.auto.rows ∙ i.4,
-      written_on _ _ _ _ _ (lt_trans c.loop-sample-test.true l.within) index entered.enters i.5 c.put_row.ensures,
+      next_place a.pattern a.state.sample k _ i.0 i.1,
+      entered.roomy i.2,
+      c.put_row.auto.rows ∙ i.3,
+      written_on _ _ _ _ _ (lt_trans c.loop-sample-test.true l.within) index entered.enters i.4 c.put_row.ensures,
     )
 
 pub shape_of-rows : goal.shape_of-rows
-shape_of-rows c = c.loop-sample.invariant.4
+shape_of-rows c = c.loop-sample.invariant.3
 
 pub returns : goal.returns
-returns c = c.loop-sample.invariant.5
+returns c =
+    let e : c.last_of_period-last.result ≡ c.loop-sample.sample = omega (arith, c.last_of_period-last.ensures.onward) in
+    rw e c.loop-sample.invariant.4

@@ -8,8 +8,5 @@ use Rattle.table_replay.proofs.singly.write_singly.Given as goal
 
 abbrev pub invariant-loop-sample : goal.invariant-loop-sample
 invariant-loop-sample l =
-    (l.initial.sample ≤ l.sample) × (l.sample ≤ l.last) × (l.at ≡ l.pattern.indices + l.pattern.width * (l.turn + (l.sample - l.initial.sample))) × (l.tail.rows ≤ l.room) × (length l.rows ≡ length l.initial.rows)
+    (l.initial.sample ≤ l.sample) × (l.at ≡ l.pattern.indices + l.pattern.width * (l.turn + (l.sample - l.initial.sample))) × (l.tail.rows ≤ l.room) × (length l.rows ≡ length l.initial.rows)
     × SinglyWritten (pattern_in l.s l.pattern) l.room (record { tail = l.initial.tail; sample = l.initial.sample; mark = l.mark }) (record { tail = l.tail; sample = l.sample; mark = l.mark }) l.initial.rows l.rows
-
-abbrev pub decreases-loop-sample : goal.decreases-loop-sample
-decreases-loop-sample l = l.last - l.sample
