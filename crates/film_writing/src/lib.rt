@@ -3,51 +3,24 @@
 
 ghost use Rattle.std.specs.Prelude.{length};
 ghost use Rattle.table_writing.specs.Write.{quote_sbgp, quote_csgp, write_sbgp, write_csgp};
-ghost use Rattle.table_writers.specs.Told.{told_length, told_written};
 ghost use Rattle.film_status.specs.Status.{Returns, one_number};
 ghost use Rattle.film_writing.specs.Writing.{Writes};
 
-use base_fields::refusal::Refusal;
 use base_ids::RowNumber;
-
-// Hands a length out.
-fn put_length(quoted: Result<usize, Refusal>, out: &mut [u64; 1]) -> u32
-    ensures { Returns (told_length quoted) one_number out.old out.new result }
-{
-    match quoted {
-        Ok(n) => {
-            out[0] = n as u64;
-            0
-        }
-        Err(refusal) => refusal.number(),
-    }
-}
-
-// Hands the number of written bytes out.
-fn put_written(written: Result<usize, Refusal>, out: &mut [u64; 1]) -> u32
-    ensures { Returns (told_written written) one_number out.old out.new result }
-{
-    match written {
-        Ok(n) => {
-            out[0] = n as u64;
-            0
-        }
-        Err(refusal) => refusal.number(),
-    }
-}
+use film_status::put_number;
 
 // out: the exact length of the sbgp that holds the rows.
 pub fn film_quote_sbgp(rows: &[RowNumber], out: &mut [u64; 1]) -> u32
     ensures { Returns (quote_sbgp rows.now) one_number out.old out.new result }
 {
-    put_length(table_writers::quote_sbgp(rows), out)
+    put_number(table_writers::quote_sbgp(rows).map(|n| n as u64), out)
 }
 
 // The same for the csgp that gives the same samples.
 pub fn film_quote_csgp(rows: &[RowNumber], out: &mut [u64; 1]) -> u32
     ensures { Returns (quote_csgp rows.now) one_number out.old out.new result }
 {
-    put_length(table_writers::quote_csgp(rows), out)
+    put_number(table_writers::quote_csgp(rows).map(|n| n as u64), out)
 }
 
 // Writes the sbgp in front of `body`. out: its length, the quoted one.
@@ -60,10 +33,8 @@ pub fn film_write_sbgp(
 ) -> u32
     ensures { Writes (write_sbgp grouping_type rows.now quoted (length body.old)) body.old body.new out.old out.new result }
 {
-    put_written(
-        table_writers::write_sbgp(grouping_type, rows, quoted, body),
-        out,
-    )
+    let written = table_writers::write_sbgp(grouping_type, rows, quoted, body);
+    put_number(written.map(|n| n as u64), out)
 }
 
 // The same for the csgp.
@@ -76,8 +47,6 @@ pub fn film_write_csgp(
 ) -> u32
     ensures { Writes (write_csgp grouping_type rows.now quoted (length body.old)) body.old body.new out.old out.new result }
 {
-    put_written(
-        table_writers::write_csgp(grouping_type, rows, quoted, body),
-        out,
-    )
+    let written = table_writers::write_csgp(grouping_type, rows, quoted, body);
+    put_number(written.map(|n| n as u64), out)
 }

@@ -1,4 +1,5 @@
 -- What the four calls answer, by the tests that led there.
+use Rattle.std.specs.Prelude.{Ok, Err}
 use mathlib.Core.Path.{◌≡◌, refl, ap, sym, ◌∙◌}
 use Prim.Native.Nat.{ℕ, ◌+◌, ◌*◌, ◌<◌, ◌≤◌}
 use native.Mathlib.Omega.{arith}
@@ -6,6 +7,8 @@ use borrow.Author.Tests.{lt-ltb, le-ltb, le-leb, lt-leb, eq-eqb, ne_eqb}
 use mathlib.Core.List.{List}
 use lib.ListN.{length}
 use Rattle.base_fields.specs.Answer.{Answer, given, refused, in_front}
+use Rattle.base_fields.specs.Refusal.{number}
+use Rattle.base_fields.specs.declared.refusal.Refusal.{Refusal}
 use Rattle.base_fields.specs.Number.{field_bound}
 use Rattle.base_ids.specs.Limits.{local_mark, record_limit}
 use Rattle.table_rows.specs.Row.{rows_of, records_in, within_records}
@@ -20,14 +23,13 @@ use Rattle.table_writing.proofs.Csgp.{csgp-length}
 use Rattle.table_writers.specs.Tally.{Tallies, marks_by, needs_by, flags_by, length_by}
 use Rattle.table_writers.specs.Told.{GivesWritten}
 use Rattle.table_writers.specs.declared.tally.Tally.{Tally}
-use Rattle.table_writers.specs.declared.WrittenTable.TheVariants as written
 
 -- what a writer gives
 module _ {told : Answer (List ℕ)} (out : List ℕ) where
-  pub gives-refused : {n : ℕ} → told ≡ refused n → GivesWritten told out out (written.Refused n)
+  pub gives-refused : {n : Refusal} → told ≡ refused (number n) → GivesWritten told out out (Err n)
   gives-refused e = record { answer = rw e refl; output = rw e refl }
 
-  pub gives-bytes : {bytes after : List ℕ} {n : ℕ} → told ≡ given bytes → n ≡ length bytes → after ≡ in_front bytes out → GivesWritten told out after (written.Bytes n)
+  pub gives-bytes : {bytes after : List ℕ} {n : ℕ} → told ≡ given bytes → n ≡ length bytes → after ≡ in_front bytes out → GivesWritten told out after (Ok n)
   gives-bytes e size put = record { answer = rw (e, size) refl; output = rw e put }
 
 -- 55

@@ -1,4 +1,5 @@
 -- What the walk over the rows that remain does at each row.
+use Rattle.std.specs.Prelude.{Result, Ok, Err, Option, Some, None}
 use mathlib.Core.Path.{◌≡◌, refl, ◌∙◌}
 use Prim.Native.Nat.{ℕ, ◌+◌, ◌<◌, ◌≤◌}
 use native.Mathlib.Omega.{arith}
@@ -6,6 +7,7 @@ use mathlib.Core.List.{List, [], ◌∷◌}
 use lib.Dec.{eqb}
 use lib.ListN.{length, get_or, drop}
 use lib.Seq.{drop-length}
+use Rattle.base_fields.specs.declared.refusal.Refusal.{Refusal}
 use Rattle.table_rows.specs.Row.{Row, rows_of, records_in, no_row}
 use Rattle.table_rows.proofs.RowAt.{rows-length, from_row}
 use Rattle.table_rows.specs.Joined.{joined_to, joined}
@@ -14,8 +16,7 @@ use Rattle.table_rows.proofs.Choice.{either}
 use Rattle.table_rows.proofs.Joining.{join_dropped, join-begun, join_last, join-empty, join-same, join-other}
 use Rattle.table_rows.proofs.Joined.{joined_length}
 use Rattle.table_writers.specs.Runs.{row, GivesNext}
-use Rattle.table_writers.specs.declared.runs.NextRun.{NextRun}
-use Rattle.table_writers.specs.declared.runs.NextRun.TheVariants as next
+use Rattle.table_writers.specs.declared.runs.RunAt.{RunAt}
 
 -- a run so far of n samples of index x, and row k
 module _ (rs : List Row) (k : ℕ) (h : k < length rs) where
@@ -52,10 +53,10 @@ join-largest r rs h = rw (join-begun r rs h) (to-largest r (joined rs))
 
 -- a run found further on in rows that are the same
 module _ (l : List ℕ) {rs qs : List Row} {p q : ℕ} (e : qs ≡ rs) (h : q ≤ p) where
-  pub gives-from : (r : NextRun) → GivesNext rs l p r → GivesNext qs l q r
-  gives-from (next.Run r) g = record { rows = e ∙ g.rows; small = g.small; onward = omega (arith, g.onward); inside = g.inside }
-  gives-from next.Over g = rw e g
-  gives-from next.End g = e ∙ g
+  pub gives-from : (r : Result (Option RunAt) Refusal) → GivesNext rs l p r → GivesNext qs l q r
+  gives-from (Ok (Some r)) g = record { rows = e ∙ g.rows; small = g.small; onward = omega (arith, g.onward); inside = g.inside }
+  gives-from (Ok None) g = e ∙ g
+  gives-from (Err n) g = (g.0, rw e g.1)
 
 -- those that remain are no more
 pub remain_length : (l : List ℕ) → length (joined (rows_of l)) ≤ records_in l

@@ -1,12 +1,12 @@
 -- A walk over the rows that remain, one at a time.
-use Rattle.std.specs.Prelude.{ℕ, ◌<◌, ◌≤◌, ◌≡◌, List, [], ◌∷◌, get_or, drop}
+use Rattle.std.specs.Prelude.{ℕ, ◌<◌, ◌≤◌, ◌≡◌, List, [], ◌∷◌, get_or, drop, Result, Ok, Err, Option, Some, None}
 use Rattle.base_fields.specs.Number.{field_bound}
+use Rattle.base_fields.specs.declared.refusal.Refusal.{Refusal}
+use Rattle.base_fields.specs.declared.refusal.Refusal.TheVariants as refusal
 use Rattle.table_rows.specs.Row.{Row, rows_of, records_in, no_row}
 use Rattle.table_rows.specs.Joined.{joined}
 use Rattle.table_writing.specs.Remaining.{largest_count}
 use Rattle.table_writers.specs.declared.runs.RunAt.{RunAt}
-use Rattle.table_writers.specs.declared.runs.NextRun.{NextRun}
-use Rattle.table_writers.specs.declared.runs.NextRun.TheVariants as next
 
 abbrev pub row : ℕ → ℕ → Row
 row count index = record { count = count; index = index }
@@ -29,7 +29,7 @@ pub record Begins (rs : List Row) (l : List ℕ) (from : ℕ) (r : RunAt) : Type
   pub onward : from ≤ r.next
   pub inside : r.next ≤ records_in l
 
-abbrev pub GivesNext : List Row → List ℕ → ℕ → NextRun → Type 0
-GivesNext rs l from (next.Run r) = Begins rs l from r
-GivesNext rs l from next.Over = field_bound ≤ largest_count rs
-GivesNext rs l from next.End = rs ≡ []
+abbrev pub GivesNext : List Row → List ℕ → ℕ → Result (Option RunAt) Refusal → Type 0
+GivesNext rs l from (Ok (Some r)) = Begins rs l from r
+GivesNext rs l from (Ok None) = rs ≡ []
+GivesNext rs l from (Err e) = (e ≡ refusal.RowCountOver) × (field_bound ≤ largest_count rs)

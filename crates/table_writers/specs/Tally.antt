@@ -1,7 +1,9 @@
 -- What a csgp's length and flags rest on.
-use Rattle.std.specs.Prelude.{ℕ, ◌+◌, ◌*◌, ◌%◌, ◌<◌, ◌≤◌, max, ◌≡◌, Bool, List, leb, length}
+use Rattle.std.specs.Prelude.{ℕ, ◌+◌, ◌*◌, ◌%◌, ◌<◌, ◌≤◌, max, ◌≡◌, Bool, List, leb, length, Result, Ok, Err}
 use Rattle.base_fields.specs.Answer.{choose}
 use Rattle.base_fields.specs.Number.{field_bound}
+use Rattle.base_fields.specs.declared.refusal.Refusal.{Refusal}
+use Rattle.base_fields.specs.declared.refusal.Refusal.TheVariants as refusal
 use Rattle.base_ids.specs.Limits.{local_mark}
 use Rattle.table_rows.specs.Row.{Row}
 use Rattle.table_csgp_head.specs.Csgp.{width_of}
@@ -9,8 +11,6 @@ use Rattle.table_writing.specs.Remaining.{largest_count, largest_index, largest_
 use Rattle.table_writing.specs.Bodies.{code_for}
 use Rattle.table_writing.specs.Fields.{bytes_for}
 use Rattle.table_writers.specs.declared.tally.Tally.{Tally}
-use Rattle.table_writers.specs.declared.tally.Tallied.{Tallied}
-use Rattle.table_writers.specs.declared.tally.Tallied.TheVariants as tallied
 
 abbrev pub counted : Tally → ℕ → ℕ → Tally
 counted t count index =
@@ -23,9 +23,9 @@ pub record Tallies (rs : List Row) (t : Tally) : Type 0 where
   pub low : t.low ≡ largest_low rs
   pub small : t.count < field_bound
 
-abbrev pub GivesTally : List Row → Tallied → Type 0
-GivesTally rs (tallied.Rows t) = Tallies rs t
-GivesTally rs tallied.Over = field_bound ≤ largest_count rs
+abbrev pub GivesTally : List Row → Result Tally Refusal → Type 0
+GivesTally rs (Ok t) = Tallies rs t
+GivesTally rs (Err e) = (e ≡ refusal.RowCountOver) × (field_bound ≤ largest_count rs)
 
 -- whether a row is marked, what the width of an index has to hold, and the flags: as the bodies have them
 abbrev pub marks_by : Tally → Bool

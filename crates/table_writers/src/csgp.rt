@@ -8,8 +8,7 @@ ghost use Rattle.table_rows.specs.Joined.{joined};
 ghost use Rattle.table_writers.specs.Tally.{Tallies, length_by};
 ghost use Rattle.table_writers.specs.Halves.{Free, PutsRuns, pairs_put, indices_put, pair_put};
 
-use base_fields::refusal::Refusal;
-use super::runs::{next_run};
+use super::runs::next_run;
 use super::tally::{Tally, flags_of, halves_for, has_marks, index_needs};
 use super::words::put_head;
 use base_ids::{LOCAL_MARK, RowNumber, SampleCount};
@@ -38,8 +37,8 @@ fn put_pairs(rows: &[RowNumber], out: &mut [u8], first: usize, m: usize) -> usiz
                 h = h + 1 + m;
                 i = r.next;
             }
-            Err(Refusal::RowCountOver) => return h,
             Ok(None) => return h,
+            Err(_) => return h,
         }
     }
 }
@@ -70,8 +69,8 @@ fn put_indices(rows: &[RowNumber], out: &mut [u8], first: usize, m: usize, marks
                 h = h + m;
                 i = r.next;
             }
-            Err(Refusal::RowCountOver) => return,
             Ok(None) => return,
+            Err(_) => return,
         }
     }
 }

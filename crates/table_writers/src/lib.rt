@@ -9,19 +9,20 @@ pub mod tally;
 pub mod words;
 
 ghost use Rattle.std.specs.Prelude.{◌≡◌, length};
+ghost use Rattle.base_fields.specs.Refusal.{told_value};
 ghost use Rattle.table_writing.specs.Write.{quote_sbgp, quote_csgp, write_sbgp, write_csgp};
-ghost use Rattle.table_writers.specs.Told.{told_length, GivesWritten};
+ghost use Rattle.table_writers.specs.Told.{GivesWritten};
 
 use base_fields::refusal::Refusal;
 use base_ids::{RECORD_LIMIT, RowNumber};
 use csgp::put_csgp;
 use sbgp::put_sbgp;
 use table_rows::record::record_count;
-use tally::{Tallied, length_of, tally_rows};
+use tally::{length_of, tally_rows};
 
 // The exact length of the sbgp that holds the rows.
 pub fn quote_sbgp(rows: &[RowNumber]) -> Result<usize, Refusal>
-    ensures { told_length result ≡ quote_sbgp rows.now }
+    ensures { told_value result ≡ quote_sbgp rows.now }
 {
     let records = record_count(rows);
     if records > RECORD_LIMIT {
@@ -32,15 +33,13 @@ pub fn quote_sbgp(rows: &[RowNumber]) -> Result<usize, Refusal>
 
 // The exact length of the csgp that gives the same samples.
 pub fn quote_csgp(rows: &[RowNumber]) -> Result<usize, Refusal>
-    ensures { told_length result ≡ quote_csgp rows.now }
+    ensures { told_value result ≡ quote_csgp rows.now }
 {
     if record_count(rows) > RECORD_LIMIT {
         return Err(Refusal::InputTooLong);
     }
-    match tally_rows(rows) {
-        Tallied::Rows(t) => Ok(length_of(t)),
-        Tallied::Over => Err(Refusal::RowCountOver),
-    }
+    let tally = tally_rows(rows)?;
+    Ok(length_of(tally))
 }
 
 // Writes the sbgp in front of the output, where its length is the quoted one and the output has room.
@@ -78,17 +77,13 @@ pub fn write_csgp(
     if RECORD_LIMIT < record_count(rows) {
         return Err(Refusal::InputTooLong);
     }
-    match tally_rows(rows) {
-        Tallied::Rows(t) => {
-            if quoted != length_of(t) {
-                return Err(Refusal::LengthDisagrees);
-            }
-            if out.len() < quoted {
-                return Err(Refusal::OutputShorter);
-            }
-            put_csgp(grouping_type, rows, t, out);
-            Ok(quoted)
-        }
-        Tallied::Over => Err(Refusal::RowCountOver),
+    let t = tally_rows(rows)?;
+    if quoted != length_of(t) {
+        return Err(Refusal::LengthDisagrees);
     }
+    if out.len() < quoted {
+        return Err(Refusal::OutputShorter);
+    }
+    put_csgp(grouping_type, rows, t, out);
+    Ok(quoted)
 }

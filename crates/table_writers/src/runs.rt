@@ -36,7 +36,12 @@ fn pass_empty(rows: &[RowNumber], from: usize) -> usize
 }
 
 // A run of `count` samples, joined with the like rows from a record on.
-fn join(rows: &[RowNumber], from: usize, count: SampleCount, index: u32) -> Result<Option<RunAt>, Refusal>
+fn join(
+    rows: &[RowNumber],
+    from: usize,
+    count: SampleCount,
+    index: u32,
+) -> Result<Option<RunAt>, Refusal>
     requires { (from ≤ records_in rows.now) × (0 < count) }
     ensures { GivesNext (joined (row count index ∷ drop from (rows_of rows.now))) rows.now from result }
 {

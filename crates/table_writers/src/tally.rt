@@ -7,8 +7,8 @@ ghost use Rattle.table_rows.specs.Joined.{joined};
 ghost use Rattle.table_writing.specs.Bodies.{code_for};
 ghost use Rattle.table_writers.specs.Tally.{GivesTally, counted, marks_by, needs_by, flags_by, length_by};
 
+use super::runs::next_run;
 use base_fields::refusal::Refusal;
-use super::runs::{next_run};
 use base_ids::{LOCAL_MARK, RowNumber, SampleCount};
 
 #[derive(Clone, Copy)]
@@ -56,16 +56,11 @@ pub fn tally_rows(rows: &[RowNumber]) -> Result<Tally, Refusal>
         low: 0,
     };
     let mut i: usize = 0;
-    loop {
-        match next_run(rows, i) {
-            Ok(Some(r)) => {
-                t = count_row(t, r.count, r.index);
-                i = r.next;
-            }
-            Err(Refusal::RowCountOver) => return Err(Refusal::RowCountOver),
-            Ok(None) => return Ok(t),
-        }
+    while let Some(r) = next_run(rows, i)? {
+        t = count_row(t, r.count, r.index);
+        i = r.next;
     }
+    Ok(t)
 }
 
 // The narrowest code whose width holds a number.

@@ -15,26 +15,26 @@ pub put_number-requires : goal.put_number-requires
 put_number-requires c =
     let o = c.loop-r in
     let a = c.args in
-    let g = rw c.in-Run.is at c.next_run.ensures in
+    let g = rw c.in-Ok-Some.field-0-is at c.in-Ok-Some.ensures in
     (row_room _ _ g.rows a.m a.m o.h o.out o.invariant.1, o.invariant.1.width, o.invariant.1.free)
 
 pub overflow_add-h : goal.overflow_add-h
 overflow_add-h c =
     let o = c.loop-r in
     let a = c.args in
-    let g = rw c.in-Run.is at c.next_run.ensures in
+    let g = rw c.in-Ok-Some.field-0-is at c.in-Ok-Some.ensures in
     omega (arith, row_room _ _ g.rows a.m a.m o.h o.out o.invariant.1)
 
 pub loop-r-smaller : goal.loop-r-smaller
 loop-r-smaller c =
-    let g = rw c.in-Run.is at c.next_run.ensures in
+    let g = rw c.in-Ok-Some.field-0-is at c.in-Ok-Some.ensures in
     omega (arith, g.onward, g.inside, c.loop-r.invariant.0)
 
 pub loop-r-preserved : goal.loop-r-preserved
 loop-r-preserved c =
     let o = c.loop-r in
     let a = c.args in
-    let g = rw c.in-Run.is at c.next_run.ensures in
+    let g = rw c.in-Ok-Some.field-0-is at c.in-Ok-Some.ensures in
     let room = row_room _ _ g.rows a.m a.m o.h o.out o.invariant.1 in (
       g.inside,
       rw c.put_number.ensures
@@ -43,18 +43,17 @@ loop-r-preserved c =
       rw (c.put_number.ensures, c.index_field.ensures) (sym (indices_step _ _ g.rows a.m o.h o.out a.marks) ∙ o.invariant.3),
     )
 
-pub shape_of-out-in-Over : goal.shape_of-out-in-Over
-shape_of-out-in-Over c = c.loop-r.invariant.2
+pub shape_of-out-in-Ok-None : goal.shape_of-out-in-Ok-None
+shape_of-out-in-Ok-None c = c.loop-r.invariant.2
 
-pub returns-in-Over : goal.returns-in-Over
-returns-in-Over c =
-    absurd (omega (arith, c.loop-r.invariant.1.counts, rw c.in-Over.is at c.next_run.ensures))
-
-pub shape_of-out-in-End : goal.shape_of-out-in-End
-shape_of-out-in-End c = c.loop-r.invariant.2
-
-pub returns-in-End : goal.returns-in-End
-returns-in-End c =
+pub returns-in-Ok-None : goal.returns-in-Ok-None
+returns-in-Ok-None c =
     let o = c.loop-r in
     let a = c.args in
-    sym (indices-end (rw c.in-End.is at c.next_run.ensures) a.marks a.m o.h o.out) ∙ o.invariant.3
+    sym (indices-end (rw c.in-Ok-None.field-0-is at c.in-Ok-None.ensures) a.marks a.m o.h o.out) ∙ o.invariant.3
+
+pub shape_of-out-in-Err : goal.shape_of-out-in-Err
+shape_of-out-in-Err c = c.loop-r.invariant.2
+
+pub returns-in-Err : goal.returns-in-Err
+returns-in-Err c = absurd (omega (arith, c.loop-r.invariant.1.counts, c.in-Err.ensures))

@@ -37,7 +37,7 @@ returns-then-total-more c =
     let some : 0 < (get_or rs o.k no_row).count = omega (arith, c.if-more-ne0.true, n) in
     let same = sym c.if-description_at-index.false ∙ c.description_at.ensures in
     let more = o.invariant.5 ∙ join_more rs o.k h o.total a.index o.invariant.3 some same in
-    rw more (omega (arith, c.if-total-more.true, n, join-largest (row (o.total + (get_or rs o.k no_row).count) a.index) (drop (o.k + 1) rs) (omega arith)))
+    (refl, rw more (omega (arith, c.if-total-more.true, n, join-largest (row (o.total + (get_or rs o.k no_row).count) a.index) (drop (o.k + 1) rs) (omega arith))))
 
 pub loop-k-preserved : goal.loop-k-preserved
 loop-k-preserved c =

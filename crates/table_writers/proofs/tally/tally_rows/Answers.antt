@@ -1,5 +1,6 @@
 use native.Mathlib.Omega.{arith}
 use borrow.Author.Rules.{rules}
+use Rattle.base_fields.proofs.Handed.{handed}
 use Rattle.table_writers.proofs.Walk.{remain_length}
 use Rattle.table_writers.proofs.Tallying.{tallying-first, tallying-step, tallying-end, tallying-over}
 use Rattle.table_writers.proofs.tally.tally_rows.Goals as goal
@@ -13,18 +14,18 @@ count_row-t-requires c =
 
 pub loop-r-smaller : goal.loop-r-smaller
 loop-r-smaller c =
-    let g = rw c.in-Run.is at c.next_run.ensures in
+    let g = rw c.in-Some.is at c.in_ok-r.ensures in
     omega (arith, g.onward, g.inside, c.loop-r.invariant.0)
 
 pub loop-r-preserved : goal.loop-r-preserved
 loop-r-preserved c =
-    let g = rw c.in-Run.is at c.next_run.ensures in
+    let g = rw c.in-Some.is at c.in_ok-r.ensures in
     (g.inside, rw c.count_row-t.ensures (tallying-step c.loop-r.invariant.1 _ _ g.rows g.small))
 
-pub returns-in-Over : goal.returns-in-Over
-returns-in-Over c =
-    tallying-over c.loop-r.invariant.1 (rw c.in-Over.is at c.next_run.ensures)
+pub returns-in_err-r : goal.returns-in_err-r
+returns-in_err-r c =
+    let o = c.in_err-r.ensures in
+    rw (handed c.from_residual.ensures) (o.0, tallying-over c.loop-r.invariant.1 o.1)
 
-pub returns-in-End : goal.returns-in-End
-returns-in-End c =
-    tallying-end c.loop-r.invariant.1 (rw c.in-End.is at c.next_run.ensures)
+pub returns : goal.returns
+returns c = tallying-end c.loop-r.invariant.1 (rw c.in_default.is at c.in_ok-r.ensures)

@@ -1,7 +1,0 @@
--- What the write told, handed out; the output as it left it.
-use Rattle.film_writing.proofs.film_write_sbgp.Goals as goal
-
-pub returns : goal.returns
-returns c =
-    let told = c.write_sbgp.ensures in
-    record { returned = rw told.answer at c.put_written.ensures; written = told.output }
