@@ -1,5 +1,4 @@
 pub mod Cases
-pub mod Enums
 pub mod Headers
 pub mod Numbered
 pub mod Onward
