@@ -21,7 +21,7 @@ fn print_cue(
             let end = lengths.listing;
             print_listing(rt, &listing[..end])
         }
-        Err(code) => print_refused(rt, code),
+        Err(refusal) => print_refused(rt, refusal),
     }
 }
 

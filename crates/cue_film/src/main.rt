@@ -35,11 +35,11 @@ fn print_cue(
 ) -> io::Result<()> {
     match listing_file::file_cue_listing(film, asked.track, asked.grouping_type, rows, listing) {
         Ok(lengths) => {
-            let end = lengths.listing;
+            let told = &listing[..lengths.listing];
             if asked.in_words {
-                print_words(rt, &listing[..end])
+                print_words(rt, told)
             } else {
-                print_listing(rt, &listing[..end])
+                print_listing(rt, told)
             }
         }
         Err(refusal) => print_refused(rt, refusal),
@@ -178,7 +178,7 @@ fn main(rt: HostRuntime) -> io::Result<()> {
     let fourcc_end = argument(&rt, 3, &mut fourcc);
     let mut word = [0u8; 5];
     let word_end = argument(&rt, 4, &mut word);
-    let in_words = &word[..word_end] == b"words";
+    let in_words = &word[..word_end] == b"words".as_slice();
     if has_argument(&rt, 4) && !in_words {
         return print_usage(&rt);
     }

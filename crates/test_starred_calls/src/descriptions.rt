@@ -2,11 +2,13 @@
 ghost use Rattle.test_starred.specs.Case.{AllHold};
 ghost use Rattle.test_starred_calls.specs.Descriptions.{sgpd_answered, entries_answered};
 
-use base_fields::refusal::Refusal;
 use base_fields::Part;
+use base_fields::refusal::Refusal;
 use base_ids::DescriptionIndex;
-use group_entries::{decode_alst, decode_rash, decode_roll};
-use group_sgpd::{entry_place, parse_sgpd};
+use group_entries::{
+    AlternativeStartup, RateShare, RollRecovery, decode_alst, decode_rash, decode_roll,
+};
+use group_sgpd::{SampleGroupDescription, entry_place, parse_sgpd};
 
 // Version 0, type abcd.
 #[derive(Clone, Copy)]

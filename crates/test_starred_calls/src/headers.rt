@@ -2,9 +2,8 @@
 ghost use Rattle.test_starred.specs.Case.{AllHold};
 ghost use Rattle.test_starred_calls.specs.Headers.{headers_answered};
 
+use atom_tree::{AtomHeader, BodyAt, read_atom_header, read_payload};
 use base_fields::refusal::Refusal;
-use atom_tree::BodyAt;
-use atom_tree::{read_atom_header, read_payload};
 
 #[derive(Clone, Copy)]
 pub struct HeaderAnswers {

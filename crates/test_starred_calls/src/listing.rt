@@ -3,7 +3,7 @@ ghost use Rattle.test_starred.specs.Case.{AllHold};
 ghost use Rattle.test_starred_calls.specs.Listing.{listing_answered};
 
 use base_fields::refusal::Refusal;
-use listing_cue::{cue_listing};
+use listing_cue::{CueLengths, cue_listing};
 
 #[derive(Clone, Copy)]
 pub struct ListingAnswer {

@@ -3,9 +3,9 @@ ghost use Rattle.test_starred.specs.Case.{AllHold};
 ghost use Rattle.test_starred_calls.specs.Tables.{sbgp_answered, csgp_answered};
 
 use base_fields::refusal::Refusal;
-use base_ids::SampleNumber;
+use base_ids::{DescriptionIndex, SampleNumber};
 use table_csgp::parse_csgp;
-use table_rows::{covered_samples, group_index_for_sample};
+use table_rows::{SampleToGroup, covered_samples, group_index_for_sample};
 use table_sbgp::parse_sbgp;
 
 #[derive(Clone, Copy)]

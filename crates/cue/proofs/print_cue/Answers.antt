@@ -7,11 +7,11 @@ use Rattle.cue.proofs.print_cue.Goals as goal
 pub slice_bounds-print_listing-end : goal.slice_bounds-print_listing-end
 slice_bounds-print_listing-end g c =
     let a = c.args in
-    let fits = listing-fits a.body.now a.grouping_type a.rows.now a.listing.now _ c.cue_listing.ensures c.in-Listing.is in
+    let fits = listing-fits a.body.now a.grouping_type a.rows.now a.listing.now _ c.cue_listing.ensures c.in-Ok.is in
     omega (arith, fits, c.cue_listing.auto.out)
 
-pub slice_bounds-print_listing-end-in-Listing : goal.slice_bounds-print_listing-end-in-Listing
-slice_bounds-print_listing-end-in-Listing g c =
+pub slice_bounds-print_listing-end-in-Ok : goal.slice_bounds-print_listing-end-in-Ok
+slice_bounds-print_listing-end-in-Ok g c =
     let a = c.args in
-    let fits = listing-fits a.body.now a.grouping_type a.rows.now a.listing.now _ c.cue_listing.ensures c.in-Listing.is in
+    let fits = listing-fits a.body.now a.grouping_type a.rows.now a.listing.now _ c.cue_listing.ensures c.in-Ok.is in
     simp length-take (omega (arith, fits, c.cue_listing.auto.out))
