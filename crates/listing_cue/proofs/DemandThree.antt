@@ -10,14 +10,14 @@ use mathlib.Core.Logic.{◌↔◌}
 use mathlib.Core.List.{List}
 use Prim.Native.Nat.{ℕ, ◌<◌}
 use lib.ListN.{take}
+use Rattle.std.specs.Prelude.{Result, Ok}
+use Rattle.base_fields.specs.declared.refusal.Refusal.{Refusal}
 use Rattle.base_fields.proofs.Bits.{Bytes}
 use Rattle.listing_spec.specs.Cue.{cue_call}
 use Rattle.listing_spec.specs.Meanings.{SameMeanings}
 use Rattle.listing_spec.proofs.DemandThree.{demand_three_calls}
 use Rattle.listing_cue.specs.Told.{GivesCue}
 use Rattle.listing_cue.specs.declared.CueLengths.{CueLengths}
-use Rattle.listing_cue.specs.declared.CueListing.{CueListing}
-use Rattle.listing_cue.specs.declared.CueListing.TheVariants as cue
 
 -- a call: its arguments, the lent memory afterwards, and its result, as the contract ties them
 pub record Call : Type 0 where
@@ -27,12 +27,12 @@ pub record Call : Type 0 where
   pub output : List ℕ
   pub rows_after : List ℕ
   pub output_after : List ℕ
-  pub result : CueListing
+  pub result : Result CueLengths Refusal
   pub bytes : Bytes body
   pub small : type < 4294967296
   pub contract : GivesCue (cue_call body type rows output) rows rows_after output output_after result
 
-pub demand_three : (a b : Call) (m n : CueLengths) → a.result ≡ cue.Listing m → b.result ≡ cue.Listing n
+pub demand_three : (a b : Call) (m n : CueLengths) → a.result ≡ Ok m → b.result ≡ Ok n
     → (take m.listing a.output_after ≡ take n.listing b.output_after) ↔ SameMeanings a.body a.type b.body b.type
 demand_three a b m n e f =
     let g = rw e at a.contract.answer in

@@ -3,11 +3,13 @@ use mathlib.Core.Path.{◌≡◌, refl, ap, sym, ◌∙◌}
 use mathlib.Core.List.{List, [], ◌∷◌, ◌++◌, append-nil}
 use Prim.Native.Nat.{ℕ, ◌*◌, ◌≤◌, ◌<◌}
 use native.Mathlib.Omega.{arith}
-use lib.Dec.{ltb}
 use lib.ListN.{length, take, drop}
 use lib.Seq.{take-append_seam}
 use borrow.Author.Tests.{lt-ltb, le-ltb}
-use Rattle.base_fields.specs.Answer.{Answer, given, none, refused, in_front}
+use Rattle.std.specs.Prelude.{Ok, Err}
+use Rattle.base_fields.specs.Answer.{Answer, given, refused, in_front}
+use Rattle.base_fields.specs.Refusal.{number}
+use Rattle.base_fields.specs.declared.refusal.Refusal.{Refusal}
 use Rattle.table_rows.specs.Row.{Row, Table, flat, rows_of, covered}
 use Rattle.table_rows.specs.Pattern.{Pattern, samples_of, covered_by}
 use Rattle.table_rows.proofs.Rows.{rows_of_append, flat-length}
@@ -28,7 +30,6 @@ use Rattle.listing_measure.proofs.Checked.{meanings-refused, listing-by}
 use Rattle.listing_cue.specs.Told.{GivesCue}
 use Rattle.listing_cue.specs.From.{listed_by}
 use Rattle.listing_cue.specs.Rows.{RowsMean, row_listing}
-use Rattle.listing_cue.specs.declared.CueListing.TheVariants as cue
 
 -- an empty part in front
 pub front-none : (l out : List ℕ) → length l ≡ 0 → l ++ out ≡ out
@@ -36,8 +37,8 @@ front-none [] out e = refl
 front-none (x ∷ l) out e = absurd (omega arith)
 
 -- a refusal leaves lent memory as it was
-pub gives-refused : {told : Answer Cue} (n : ℕ) (numbers out : List ℕ) → told ≡ refused n → GivesCue told numbers numbers out out (cue.Refused n)
-gives-refused n numbers out e = rw e (record { answer = refl; rows = refl; output = refl })
+pub gives-refused : {answered : Answer Cue} (r : Refusal) (numbers out : List ℕ) → answered ≡ refused (number r) → GivesCue answered numbers numbers out out (Err r)
+gives-refused r numbers out e = rw e (record { answer = refl; rows = refl; output = refl })
 
 -- the listing of a body, by its group
 pub group-listed : (s : List ℕ) (t room size : ℕ) {g : Group} → group_taken s t room ≡ given g → cue_listing s t room size ≡ listed_by t g.entries g.patterns g.rows size
@@ -72,7 +73,7 @@ module _ (t : ℕ) (entries : List (List ℕ)) (ts : List ℕ) (tb : SampleTable
     -- what is written
     pub gives-listed : (x : Table) (numbers numbers' out out' : List ℕ) (n k : ℕ) → n ≡ length (listing_of t s patterns) → n ≤ length out → length x.rows ≡ k
         → numbers' ≡ flat x.rows ++ drop (2 * length x.rows) numbers → out' ≡ in_front (listing_of t s patterns) out
-        → GivesCue (listed_by t entries patterns x.rows (length out)) numbers numbers' out out' (cue.Listing (record { listing = n; rows = k }))
+        → GivesCue (listed_by t entries patterns x.rows (length out)) numbers numbers' out out' (Ok (record { listing = n; rows = k }))
     gives-listed x numbers numbers' out out' n k e l f g h =
         rw (listed-given x.rows (length out) (omega arith)) (record { answer = rw (e, f) refl; rows = g; output = h })
 

@@ -1,16 +1,19 @@
--- Document 01's answer for each case of the enum of src/, and what a call leaves in lent memory.
-use Rattle.std.specs.Prelude.{ℕ, ◌≡◌, List}
-use Rattle.base_fields.specs.Answer.{Answer, given, refused}
+-- Document 01's answer for a call's result, and what the call leaves in lent memory.
+use Rattle.std.specs.Prelude.{ℕ, ◌≡◌, List, Result}
+use Rattle.base_fields.specs.Answer.{Answer}
+use Rattle.base_fields.specs.Refusal.{told}
+use Rattle.base_fields.specs.declared.refusal.Refusal.{Refusal}
 use Rattle.listing_spec.specs.Cue.{Cue, Lengths, reported, rows_after, output_after}
-use Rattle.listing_cue.specs.declared.CueListing.{CueListing}
-use Rattle.listing_cue.specs.declared.CueListing.TheVariants as cue
+use Rattle.listing_cue.specs.declared.CueLengths.{CueLengths}
 
-abbrev pub told_cue : CueListing → Answer Lengths
-told_cue (cue.Listing n) = given (record { listing = n.listing; rows = n.rows })
-told_cue (cue.Refused n) = refused n
+abbrev pub lengths_of : CueLengths → Lengths
+lengths_of n = record { listing = n.listing; rows = n.rows }
 
--- a call's result, and the run of numbers and the output before and after it, where the answer is `told`
-pub record GivesCue (told : Answer Cue) (numbers numbers' out out' : List ℕ) (r : CueListing) : Type 0 where
-  pub answer : told_cue r ≡ reported told
-  pub rows : numbers' ≡ rows_after told numbers
-  pub output : out' ≡ output_after told out
+abbrev pub told_cue : Result CueLengths Refusal → Answer Lengths
+told_cue = told lengths_of
+
+-- a call's result, and the run of numbers and the output before and after it, where the answer is `answered`
+pub record GivesCue (answered : Answer Cue) (numbers numbers' out out' : List ℕ) (r : Result CueLengths Refusal) : Type 0 where
+  pub answer : told_cue r ≡ reported answered
+  pub rows : numbers' ≡ rows_after answered numbers
+  pub output : out' ≡ output_after answered out

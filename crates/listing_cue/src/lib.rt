@@ -13,13 +13,13 @@ ghost use Rattle.listing_spec.specs.Cue.{cue_call};
 ghost use Rattle.listing_cue.specs.Told.{GivesCue};
 ghost use Rattle.listing_cue.specs.From.{GivesListed};
 
-use base_fields::refusal::Refusal;
 use base_fields::bytes_at;
+use base_fields::refusal::Refusal;
 use base_ids::{RECORD_NUMBERS, RowNumber};
 use group_sgpd::{SgpdHead, entry_marks};
-use listing_group::{open_group};
-use listing_meanings::{check_used};
-use listing_measure::{measure_listing};
+use listing_group::open_group;
+use listing_meanings::check_used;
+use listing_measure::measure_listing;
 use table_records::write_rows;
 use table_runs::{SampleTable, count_samples};
 use write::write_listing;
