@@ -1,11 +1,10 @@
--- What the results tell, and a lookup under way.
-use Rattle.std.specs.Prelude.{ℕ, ◌+◌, ◌-◌, ◌≡◌, List, ltb, length, Result, Ok, Err, Option, Some, None}
-use Rattle.base_fields.specs.Answer.{Answer, given, none, choose}
+-- What the results tell.
+use Rattle.std.specs.Prelude.{ℕ, ◌≡◌, List, length, Result, Ok, Err, Option, Some, None}
+use Rattle.base_fields.specs.Answer.{Answer, given, none}
 use Rattle.base_fields.specs.Refusal.{told_value, told_or_none}
 use Rattle.base_fields.specs.declared.refusal.Refusal.{Refusal}
 use Rattle.table_row_structs.specs.Records.{set_answer, rows_set, rows_copied, copy_into}
 use Rattle.table_row_structs.specs.declared.SampleToGroupEntry.{SampleToGroupEntry}
-use Rattle.table_row_structs.specs.declared.Search.{Search}
 
 abbrev pub told_row : Result (Option SampleToGroupEntry) Refusal → Answer SampleToGroupEntry
 told_row = told_or_none (λ row. row)
@@ -28,12 +27,3 @@ accepted_in (Err e) = 0
 pub record GivesRows (l : List ℕ) (before after : List SampleToGroupEntry) (r : Result ℕ Refusal) : Type 0 where
   pub answer : told_value r ≡ copy_into l before
   pub rows : after ≡ rows_copied (copy_into l before) l before
-
-abbrev pub search_from : ℕ → Search
-search_from k = record { next = 0; left = k; index = 0 }
-
--- a lookup after one row of n: the row covers the sample and the lookup is at its end, or its samples are passed
-abbrev pub passed : Search → SampleToGroupEntry → ℕ → Search
-passed s row n =
-    choose (ltb s.left row.sample_count) (record { next = n; left = 0; index = row.group_description_index })
-    (record { next = s.next + 1; left = s.left - row.sample_count; index = 0 })

@@ -7,7 +7,7 @@ ghost use Rattle.table_rows.specs.Row.{record_numbers, records_in, within_record
 ghost use Rattle.base_fields.specs.Refusal.{told_value};
 ghost use Rattle.table_rows.specs.Found.{told_index};
 ghost use Rattle.table_row_structs.specs.Records.{no_row, row_in, set_answer, lookup_in, total_in, or_too_many, read_count, copy_answer, structs_of};
-ghost use Rattle.table_row_structs.specs.Steps.{told_row, told_set, GivesSet, accepted_in, search_from, passed, GivesRows};
+ghost use Rattle.table_row_structs.specs.Steps.{told_row, told_set, GivesSet, accepted_in, GivesRows};
 
 use base_fields::refusal::Refusal;
 use base_ids::{
@@ -20,14 +20,6 @@ use table_rows::record::{count_at, description_at};
 pub struct SampleToGroupEntry {
     pub sample_count: SampleCount,
     pub group_description_index: u32,
-}
-
-// A lookup under way: the row to look at next, the samples still to pass, and the index that was found.
-#[derive(Clone, Copy)]
-struct Search {
-    next: usize,
-    left: SampleCount,
-    index: u32,
 }
 
 pub fn row_count(rows: &[SampleToGroupEntry]) -> usize
@@ -117,14 +109,9 @@ pub fn covered_samples(rows: &[SampleToGroupEntry]) -> Result<u64, Refusal>
     ensures { told_value result ≡ total_in rows.now }
 {
     let n = row_count(rows);
-    let reads = rows_read(n);
-    let mut k: usize = 0;
     let mut sum: u64 = 0;
-    while k < reads {
-        let row = row_in(rows, k);
-        let count = row.sample_count as u64;
-        sum = sum + count;
-        k = k + 1;
+    for k in 0..rows_read(n) {
+        sum += row_in(rows, k).sample_count as u64;
     }
     sum_told(n, sum)
 }
@@ -172,52 +159,10 @@ pub fn write_rows(numbers: &[RowNumber], rows: &mut [SampleToGroupEntry]) -> Res
 {
     let answer = written_over(numbers.len(), rows.len());
     let n = accepted(answer);
-    let mut i: usize = 0;
-    while i < n {
+    for i in 0..n {
         rows[i] = record_at(numbers, i);
-        i = i + 1;
     }
     answer
-}
-
-fn search_for(sample: SampleNumber) -> Search
-    ensures { result ≡ search_from sample.0 }
-{
-    Search {
-        next: 0,
-        left: sample.0,
-        index: 0,
-    }
-}
-
-// One row on, of so many. Where it covers the sample, no row is left to look at.
-fn pass_row(search: Search, row: SampleToGroupEntry, rows: usize) -> Search
-    requires { search.next < rows }
-    ensures { result ≡ passed search row rows }
-{
-    let left = search.left;
-    let count = row.sample_count;
-    if left < count {
-        return Search {
-            next: rows,
-            left: 0,
-            index: row.group_description_index,
-        };
-    }
-    Search {
-        next: search.next + 1,
-        left: left - count,
-        index: 0,
-    }
-}
-
-fn index_told(n: usize, search: Search) -> Result<DescriptionIndex, Refusal>
-    ensures { told_index result ≡ or_too_many n search.index }
-{
-    if RECORD_LIMIT < n {
-        return Err(Refusal::InputTooLong);
-    }
-    Ok(DescriptionIndex(search.index))
 }
 
 // The index of the row that covers a sample; 0 past the end. No row behind that one is read.
@@ -227,12 +172,15 @@ pub fn group_index_for_sample(
 ) -> Result<DescriptionIndex, Refusal>
     ensures { told_index result ≡ lookup_in rows.now sample.0 }
 {
-    let n = row_count(rows);
-    let reads = rows_read(n);
-    let mut search = search_for(sample);
-    while search.next < reads {
-        let row = row_in(rows, search.next);
-        search = pass_row(search, row, reads);
+    if RECORD_LIMIT < rows.len() {
+        return Err(Refusal::InputTooLong);
     }
-    index_told(n, search)
+    let mut left = sample.0;
+    for row in rows {
+        if left < row.sample_count {
+            return Ok(DescriptionIndex(row.group_description_index));
+        }
+        left -= row.sample_count;
+    }
+    Ok(DescriptionIndex(0))
 }

@@ -1,9 +1,6 @@
-use Rattle.std.proofs.Common.{◌-◌, ◌≡◌, ◌≤◌, ◌*◌}
+use Rattle.std.proofs.Common.{◌≡◌, ◌≤◌, ◌*◌}
 use Rattle.table_row_structs.proofs.Sums.{sum_to}
 use Rattle.table_row_structs.proofs.covered_samples.Given as goal
 
 abbrev pub invariant-loop-k : goal.invariant-loop-k
-invariant-loop-k l = (l.k ≤ l.reads) × (l.sum ≡ sum_to l.rows l.k) × (l.sum ≤ l.k * 0xffffffff)
-
-abbrev pub decreases-loop-k : goal.decreases-loop-k
-decreases-loop-k l = l.reads - l.k
+invariant-loop-k l = (l.sum ≡ sum_to l.rows l.k) × (l.sum ≤ l.k * 0xffffffff)

@@ -12,12 +12,12 @@ loop-i-preserved c =
     let a = c.accepted-n.ensures in
     let h : c.loop-i.i < records_in l = omega arith in
     let g : c.loop-i.i < length rows = omega arith in
-    (omega arith, rw (c.loop-i.invariant.1, c.record_at.ensures) (up_to-next l rows c.loop-i.i h g))
+    rw (c.loop-i.invariant, c.record_at.ensures) (up_to-next l rows c.loop-i.i h g)
 
 pub returns : goal.returns
 returns c =
     let l = c.args.numbers.now in
     let rows = c.args.rows.now in
     let e : c.loop-i.i ≡ accepted_in c.written_over-answer.result = omega arith in
-    let z : c.loop-i.rows ≡ up_to l rows (accepted_in c.written_over-answer.result) = rw e at c.loop-i.invariant.1 in
+    let z : c.loop-i.rows ≡ up_to l rows (accepted_in c.written_over-answer.result) = rw e at c.loop-i.invariant in
     rw z (copies l rows c.written_over-answer.result c.written_over-answer.ensures)
