@@ -33,8 +33,7 @@ pub fn entry_marks(s: &[u8], head: SgpdHead) -> [u32; 16]
     let mut marks: [u32; 16] = [0; 16];
     let mut at = head.first;
     let mut left = count;
-    let mut k: usize = 0;
-    while k < MARKS {
+    for k in 0..MARKS {
         marks[k] = at as u32;
         if left <= apart {
             return marks;
@@ -42,8 +41,7 @@ pub fn entry_marks(s: &[u8], head: SgpdHead) -> [u32; 16]
         match skip(s, lengths, count, at, apart) {
             Ok(p) => {
                 at = p;
-                left = left - apart;
-                k = k + 1;
+                left -= apart;
             }
             Err(_) => return marks,
         }

@@ -18,15 +18,13 @@ fn put_places(s: &[u8], head: SgpdHead, run: &mut [u32])
     let lengths = lengths_by(head.version, head.grouping_type, head.default_length);
     let count = head.entry_count;
     let mut at = head.first;
-    let mut k: u32 = 0;
-    while k < count {
+    for k in 0..count {
         match span_at(s, lengths, count, at) {
             Ok(part) => {
                 let i = 2 * (k as usize);
                 run[i] = part.place as u32;
                 run[i + 1] = part.size as u32;
                 at = part.place + part.size;
-                k = k + 1;
             }
             Err(_) => return,
         }

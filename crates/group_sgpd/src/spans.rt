@@ -82,8 +82,7 @@ fn skip_prefixed(s: &[u8], at: usize, n: u32) -> Result<usize, Refusal>
     ensures { told_value result ≡ after n s.now at }
 {
     let mut bytes = (s.len() - at) as u32;
-    let mut left = n;
-    while 0 < left {
+    for _ in 0..n {
         if bytes < 4 {
             return Err(Refusal::NoEntryLength);
         }
@@ -92,7 +91,6 @@ fn skip_prefixed(s: &[u8], at: usize, n: u32) -> Result<usize, Refusal>
             return Err(Refusal::EntryCut);
         }
         bytes = bytes - 4 - size;
-        left = left - 1;
     }
     Ok(s.len() - bytes as usize)
 }

@@ -2,7 +2,6 @@ use mathlib.Core.Path.{◌≡◌, refl, ap, sym, ◌∙◌}
 use Prim.Native.Nat.{◌+◌, ◌≤◌, ◌<◌}
 use native.Mathlib.Omega.{arith}
 use lib.ListN.{length-set}
-use borrow.Author.Rules.{rules}
 use Rattle.base_fields.specs.Answer.{given, input_limit}
 use Rattle.base_fields.specs.Span.{Span, span_of}
 use Rattle.group_sgpd.specs.Sgpd.{span_at}
@@ -29,12 +28,12 @@ pub loop-k-init : goal.loop-k-init
 unfolding after
 loop-k-init c =
     let r = c.requires.read_whole in
-    (search rules, rw (first-is r.head) refl, refl, sym (placed_first r _))
+    (rw (first-is r.head) refl, sym (placed_first r _))
 
 pub span_at-requires : goal.span_at-requires
 span_at-requires c =
     let r = c.requires.read_whole.head in
-    record { among = among r c.lengths_by-lengths.ensures (first-inside r _ c.loop-k.invariant.1); count_nonzero = omega arith }
+    record { among = among r c.lengths_by-lengths.ensures (first-inside r _ c.loop-k.invariant.0); count_nonzero = omega arith }
 
 pub overflow_cast-run : goal.overflow_cast-run
 overflow_cast-run c = omega (arith, inside (goal.at.overflow_cast-run c).In-Ok)
@@ -54,21 +53,15 @@ loop-k-preserved c =
     let k = c.loop-k.k in
     let i = c.loop-k.invariant in
     let l : k < c.args.head.entry_count = omega arith in
-    (search rules, after_next r k l i.1 (entered (goal.at.loop-k-preserved c).In-Ok), simp length-set i.2, rw i.3 (placed-next r k l i.1 (entered (goal.at.loop-k-preserved c).In-Ok) _ c.requires.entry_count_in_bounds))
-
-pub shape_of-run-in-Err : goal.shape_of-run-in-Err
-shape_of-run-in-Err c = c.loop-k.invariant.2
+    (after_next r k l i.0 (entered (goal.at.loop-k-preserved c).In-Ok), rw i.1 (placed-next r k l i.0 (entered (goal.at.loop-k-preserved c).In-Ok) _ c.requires.entry_count_in_bounds))
 
 pub returns-in-Err : goal.returns-in-Err
 returns-in-Err c =
     absurd
-    (entry_kept c.requires.read_whole c.loop-k.k (omega arith) c.loop-k.invariant.1
+    (entry_kept c.requires.read_whole c.loop-k.k (omega arith) c.loop-k.invariant.0
     (sym (ap told_span (sym c.in-Err.is) ∙ c.span_at.ensures)))
-
-pub shape_of-run : goal.shape_of-run
-shape_of-run c = c.loop-k.invariant.2
 
 pub returns : goal.returns
 returns c =
     let e : c.loop-k.k ≡ c.args.head.entry_count = omega arith in
-    (rw e at c.loop-k.invariant.3) ∙ placed-all c.requires.read_whole _
+    (rw e at c.loop-k.invariant.1) ∙ placed-all c.requires.read_whole _

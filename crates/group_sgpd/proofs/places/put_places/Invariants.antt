@@ -1,7 +1,6 @@
 -- The loop's invariant: the walk stands behind k entries, and these are in front of the run.
 use mathlib.Core.Path.{◌≡◌}
-use Prim.Native.Nat.{◌+◌, ◌-◌, ◌≤◌}
-use lib.ListN.{length}
+use Prim.Native.Nat.{◌+◌}
 use Rattle.base_fields.specs.Answer.{given}
 use Rattle.group_sgpd.specs.Sgpd.{entry_count_place}
 use Rattle.group_sgpd.specs.Head.{after}
@@ -10,7 +9,4 @@ use Rattle.group_sgpd.proofs.places.put_places.Given as goal
 
 abbrev pub invariant-loop-k : goal.invariant-loop-k
 invariant-loop-k l =
-    (l.k ≤ l.count) × (after l.k l.s (entry_count_place l.s + 4) ≡ given l.at) × (length l.run ≡ length l.initial.run) × (l.run ≡ placed l.s l.initial.run l.k)
-
-abbrev pub decreases-loop-k : goal.decreases-loop-k
-decreases-loop-k l = l.count - l.k
+    (after l.k l.s (entry_count_place l.s + 4) ≡ given l.at) × (l.run ≡ placed l.s l.initial.run l.k)

@@ -5,8 +5,5 @@ use Prim.Native.Nat.{◌-◌, ◌≤◌}
 use mathlib.Core.Path.{◌≡◌}
 use Rattle.group_sgpd.proofs.spans.skip_prefixed.Given as goal
 
-abbrev pub invariant-loop-left : goal.invariant-loop-left
-invariant-loop-left l = (l.bytes ≤ length l.s) × (l.left ≤ l.n) × (after l.n l.s l.at ≡ after l.left l.s (length l.s - l.bytes))
-
-abbrev pub decreases-loop-left : goal.decreases-loop-left
-decreases-loop-left l = l.left
+abbrev pub invariant-loop : goal.invariant-loop
+invariant-loop l = (l.bytes ≤ length l.s) × (after l.n l.s l.at ≡ after (l.n - l.counter) l.s (length l.s - l.bytes))
