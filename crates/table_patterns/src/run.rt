@@ -1,6 +1,6 @@
 // Runs of equal indices within a pattern, so that no work is done for each single sample. Fields of one width hold equal indices where their bits
 // are equal, so the bits are compared, and the index is made of them once for a run.
-ghost use Rattle.std.specs.Prelude.{◌≡◌, ◌+◌, ◌*◌, ◌≤◌, ◌<◌, length as size};
+ghost use Rattle.std.specs.Prelude.{◌+◌, ◌*◌, ◌≤◌, ◌<◌, length as size};
 ghost use Rattle.base_fields.specs.Answer.{input_limit};
 ghost use Rattle.table_patterns.specs.Place.{bit_count, field_number, pattern_in, Stands};
 ghost use Rattle.table_patterns.specs.Run.{GivesRun, AlikeIndices, alike, SameWords};
