@@ -12,6 +12,8 @@ use native.Mathlib.Omega.{arith}
 use lib.ListN.{take}
 use Rattle.base_fields.specs.Answer as answer
 use Rattle.base_fields.specs.Answer.{Answer, given, refused}
+use Rattle.std.specs.Prelude.{Result, Ok}
+use Rattle.base_fields.specs.declared.refusal.Refusal.{Refusal}
 use Rattle.base_fields.specs.Span.{Span, bytes_at, part_of}
 use Rattle.base_fields.proofs.Bits.{Bytes}
 use Rattle.atom_path.specs.Path.{stbl_at}
@@ -19,8 +21,6 @@ use Rattle.listing_theorem.proofs.Samples.{part_bytes}
 use Rattle.listing_spec.specs.Meanings.{SameMeanings}
 use Rattle.listing_cue.specs.Told.{GivesCue}
 use Rattle.listing_cue.specs.declared.CueLengths.{CueLengths}
-use Rattle.listing_cue.specs.declared.CueListing.{CueListing}
-use Rattle.listing_cue.specs.declared.CueListing.TheVariants as cue
 use Rattle.listing_cue.proofs.DemandThree.{Call, demand_three}
 use Rattle.listing_file.specs.File.{file_listing, file_call, stbl_of}
 
@@ -33,13 +33,13 @@ pub record FileCall : Type 0 where
   pub output : List ℕ
   pub rows_after : List ℕ
   pub output_after : List ℕ
-  pub result : CueListing
+  pub result : Result CueLengths Refusal
   pub bytes : Bytes film
   pub small : type < 4294967296
   pub contract : GivesCue (file_call film track type rows output) rows rows_after output output_after result
 
 -- an accepted call found an stbl, and is the call of cue_listing on its body
-accepted : (c : FileCall) (n : CueLengths) → c.result ≡ cue.Listing n → (found : Answer Span) → stbl_at c.film c.track ≡ found
+accepted : (c : FileCall) (n : CueLengths) → c.result ≡ Ok n → (found : Answer Span) → stbl_at c.film c.track ≡ found
     → (s : Call) × (s.body ≡ part_of c.film found) × (s.type ≡ c.type) × (s.output_after ≡ c.output_after) × (s.result ≡ c.result)
 unfolding file_listing
 accepted c n e (given b) f = (
@@ -63,7 +63,7 @@ accepted c n e (given b) f = (
 accepted c n e answer.none f = let told = rw (e, f) at c.contract.answer in let z : ◌≡◌ {A = ℕ} 0 1 = cc in absurd (omega arith)
 accepted c n e (refused k) f = let told = rw (e, f) at c.contract.answer in let z : ◌≡◌ {A = ℕ} 0 1 = cc in absurd (omega arith)
 
-pub demand_three_files : (a b : FileCall) (m n : CueLengths) → a.result ≡ cue.Listing m → b.result ≡ cue.Listing n
+pub demand_three_files : (a b : FileCall) (m n : CueLengths) → a.result ≡ Ok m → b.result ≡ Ok n
     → (take m.listing a.output_after ≡ take n.listing b.output_after)
     ↔ SameMeanings (stbl_of a.film a.track) a.type (stbl_of b.film b.track) b.type
 demand_three_files a b m n e f =

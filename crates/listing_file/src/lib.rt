@@ -4,11 +4,11 @@
 ghost use Rattle.listing_cue.specs.Told.{GivesCue};
 ghost use Rattle.listing_file.specs.File.{file_call};
 
-use base_fields::refusal::Refusal;
-use atom_path::{find_stbl};
+use atom_path::find_stbl;
 use base_fields::bytes_at;
+use base_fields::refusal::Refusal;
 use base_ids::RowNumber;
-use listing_cue::{cue_listing};
+use listing_cue::{CueLengths, cue_listing};
 
 // Finds the stbl of a track, counted from 0, and writes its table's rows in front of the lent run and its listing in front of the output. Nothing
 // is written on refusal.
@@ -21,12 +21,7 @@ pub fn file_cue_listing(
 ) -> Result<CueLengths, Refusal>
     ensures { GivesCue (file_call s.now track grouping_type rows.old out.old) rows.old rows.new out.old out.new result }
 {
-    let found = find_stbl(s, track);
-    match found {
-        Ok(body) => {
-            let stbl = bytes_at(s, body.place as usize, body.size as usize);
-            cue_listing(stbl, grouping_type, rows, out)
-        }
-        Err(n) => Err(n),
-    }
+    let body = find_stbl(s, track)?;
+    let stbl = bytes_at(s, body.place as usize, body.size as usize);
+    cue_listing(stbl, grouping_type, rows, out)
 }
