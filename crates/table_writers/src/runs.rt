@@ -25,14 +25,12 @@ fn pass_empty(rows: &[RowNumber], from: usize) -> usize
     ensures { Passed rows.now from result }
 {
     let records = record_count(rows);
-    let mut k = from;
-    while k < records {
+    for k in from..records {
         if count_at(rows, k) != 0 {
             return k;
         }
-        k = k + 1;
     }
-    k
+    records
 }
 
 // A run of `count` samples, joined with the like rows from a record on.
@@ -47,8 +45,7 @@ fn join(
 {
     let records = record_count(rows);
     let mut total = count;
-    let mut k = from;
-    while k < records {
+    for k in from..records {
         let more = count_at(rows, k);
         if more != 0 {
             if description_at(rows, k) != index {
@@ -61,14 +58,13 @@ fn join(
             if FIELD_LIMIT - total < more {
                 return Err(Refusal::RowCountOver);
             }
-            total = total + more;
+            total += more;
         }
-        k = k + 1;
     }
     Ok(Some(RunAt {
         count: total,
         index,
-        next: k,
+        next: records,
     }))
 }
 

@@ -16,12 +16,9 @@ fn put_rows(rows: &[RowNumber], out: &mut [u8])
     requires { (records_in rows.now ≤ record_limit) × (12 + 8 * records_in rows.now ≤ length out.old) }
     ensures { out.new ≡ sets out.old 12 (words (words_of_rows (rows_of rows.now))) }
 {
-    let records = record_count(rows);
-    let mut k: usize = 0;
-    while k < records {
+    for k in 0..record_count(rows) {
         put_word(out, 12 + 8 * k, count_at(rows, k));
         put_word(out, 16 + 8 * k, description_at(rows, k));
-        k = k + 1;
     }
 }
 

@@ -1,5 +1,5 @@
 // What a csgp's length and flags rest on: how many rows remain, their largest count, their largest index, and the largest low part of an index.
-ghost use Rattle.std.specs.Prelude.{◌≡◌, ◌*◌, ◌<◌, ◌≤◌, max};
+ghost use Rattle.std.specs.Prelude.{◌≡◌, ◌*◌, ◌<◌, ◌≤◌};
 ghost use Rattle.base_ids.specs.Limits.{local_mark, record_limit};
 ghost use Rattle.table_csgp_head.specs.Csgp.{width_of};
 ghost use Rattle.table_rows.specs.Row.{rows_of, records_in};
@@ -20,18 +20,6 @@ pub struct Tally {
     pub low: u32,
 }
 
-fn larger_count(a: SampleCount, b: SampleCount) -> SampleCount
-    ensures { result ≡ max a b }
-{
-    if a < b { b } else { a }
-}
-
-fn larger_index(a: u32, b: u32) -> u32
-    ensures { result ≡ max a b }
-{
-    if a < b { b } else { a }
-}
-
 // One row more.
 fn count_row(t: Tally, count: SampleCount, index: u32) -> Tally
     requires { t.rows ≤ record_limit }
@@ -39,9 +27,9 @@ fn count_row(t: Tally, count: SampleCount, index: u32) -> Tally
 {
     Tally {
         rows: t.rows + 1,
-        count: larger_count(t.count, count),
-        index: larger_index(t.index, index),
-        low: larger_index(t.low, index % LOCAL_MARK),
+        count: t.count.max(count),
+        index: t.index.max(index),
+        low: t.low.max(index % LOCAL_MARK),
     }
 }
 

@@ -1,6 +1,6 @@
 -- The invariant: the run so far in front of the rows from here on joins to the same rows as at the start.
 use mathlib.Core.Path.{◌≡◌}
-use Prim.Native.Nat.{◌-◌, ◌≤◌, ◌<◌}
+use Prim.Native.Nat.{◌<◌}
 use mathlib.Core.List.{◌∷◌}
 use lib.ListN.{drop}
 use Rattle.table_rows.specs.Row.{rows_of, records_in}
@@ -11,8 +11,5 @@ use Rattle.table_writers.proofs.runs.join.Given as goal
 
 abbrev pub invariant-loop-k : goal.invariant-loop-k
 invariant-loop-k l =
-    (l.k ≤ l.records) × (l.records ≡ records_in l.rows) × (l.from ≤ l.k) × (0 < l.total) × (l.total < field_bound)
+    (l.records ≡ records_in l.rows) × (0 < l.total) × (l.total < field_bound)
     × (joined (row l.count l.index ∷ drop l.from (rows_of l.rows)) ≡ joined (row l.total l.index ∷ drop l.k (rows_of l.rows)))
-
-abbrev pub decreases-loop-k : goal.decreases-loop-k
-decreases-loop-k l = l.records - l.k
