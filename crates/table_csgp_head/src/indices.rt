@@ -27,13 +27,11 @@ fn has_highest(s: &[u8], place: usize, n: u32) -> bool
 {
     let behind = 7 - (place % 8) as u32;
     let mut at = place / 8;
-    let mut i: u32 = 0;
-    while i < n {
+    for i in 0..n {
         if (read_u8(s, at) >> behind) % 2 == 1 {
             return true;
         }
-        at = at + 4;
-        i = i + 1;
+        at += 4;
     }
     false
 }

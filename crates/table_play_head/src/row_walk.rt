@@ -22,6 +22,7 @@ pub fn walk_from(rows: &[RowNumber], from: usize, samples: u64) -> Walked
     let records = record_count(rows);
     let mut row = from;
     let mut left = samples;
+    // A walk may begin past the last row and tells where it ends, so the row is no counter of a `for`.
     while row < records {
         let count = count_at(rows, row) as u64;
         if left < count {
@@ -31,8 +32,8 @@ pub fn walk_from(rows: &[RowNumber], from: usize, samples: u64) -> Walked
                 past: 0,
             };
         }
-        left = left - count;
-        row = row + 1;
+        left -= count;
+        row += 1;
     }
     Walked {
         row,

@@ -26,12 +26,10 @@ fn parse_table(
 {
     let plan = plan_table(s, kind, rows.len());
     let mut cursor = plan.first;
-    let mut k: usize = 0;
-    while k < plan.count {
+    for k in 0..plan.count {
         let next = next_row(s, plan.table, cursor);
         rows[k] = next.row;
         cursor = next.rest;
-        k = k + 1;
     }
     plan.answer
 }

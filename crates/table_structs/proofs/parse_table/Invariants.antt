@@ -1,4 +1,4 @@
-use Rattle.std.proofs.Common.{◌-◌, ◌≡◌, ◌≤◌, length}
+use Rattle.std.proofs.Common.{◌≡◌, ◌≤◌, length}
 use Rattle.table_structs.specs.Table.{parsed_table}
 use Rattle.table_structs.proofs.Filling.{rows_written, BehindRows}
 use Rattle.table_structs.proofs.parse_table.Given as goal
@@ -7,7 +7,4 @@ use Rattle.table_structs.proofs.parse_table.Given as goal
 abbrev pub invariant-loop-k : goal.invariant-loop-k
 invariant-loop-k l =
     let told = parsed_table l.fn.kind l.s (length l.initial.rows) in
-    (l.k ≤ l.plan.count) × BehindRows told l.s l.plan l.k l.cursor × (l.rows ≡ rows_written told l.initial.rows l.k)
-
-abbrev pub decreases-loop-k : goal.decreases-loop-k
-decreases-loop-k l = l.plan.count - l.k
+    (l.k ≤ l.k-end) × (l.k-end ≡ l.plan.count) × BehindRows told l.s l.plan l.k l.cursor × (l.rows ≡ rows_written told l.initial.rows l.k)
