@@ -59,16 +59,14 @@ pub fn count_repainted(
     };
     let mut from = a;
     let mut to = b;
-    let mut j: usize = 0;
-    while j < stated {
+    for j in 0..stated {
         let count = count_at(rows, j);
         let index = description_at(rows, j);
         let x = least(count, from);
         let y = least(count, to);
         tail = enter_pieces(tail, room, count, index, x, y, paint)?;
-        from = from - x as u64;
-        to = to - y as u64;
-        j = j + 1;
+        from -= x as u64;
+        to -= y as u64;
     }
     Ok(tail.rows)
 }

@@ -85,18 +85,16 @@ pub fn write_repainted(rows: &mut [RowNumber], stated: usize, a: u64, b: u64, pa
     let mut to = b;
     let mut count = count_at(rows, 0);
     let mut index = description_at(rows, 0);
-    let mut j: usize = 1;
-    while j < stated {
+    for j in 1..stated {
         let next_count = count_at(rows, j);
         let next_index = description_at(rows, j);
         let x = least(count, from);
         let y = least(count, to);
         tail = put_pieces(rows, tail, count, index, x, y, paint);
-        from = from - x as u64;
-        to = to - y as u64;
+        from -= x as u64;
+        to -= y as u64;
         count = next_count;
         index = next_index;
-        j = j + 1;
     }
     let x = least(count, from);
     let y = least(count, to);

@@ -5,7 +5,7 @@ use Rattle.table_repaint.proofs.Counting.{count-end, count-on, count-refused}
 use Rattle.table_repaint.proofs.count.count_repainted.Goals as goal
 
 pub loop-j-init : goal.loop-j-init
-loop-j-init c = (omega arith, c.requires.1, c.requires.0, rw c.record_count-room.ensures refl)
+loop-j-init c = (c.requires.1, rw c.record_count-room.ensures refl)
 
 pub count_at-count-requires : goal.count_at-count-requires
 count_at-count-requires c = omega arith
@@ -21,9 +21,9 @@ pub returns-in_err-tail : goal.returns-in_err-tail
 returns-in_err-tail c =
     let at = c.loop-j in
     rw (handed c.from_residual.ensures)
-    (sym (count-refused _ _ _ _ _ _ _ _ at.invariant.2 c.loop-j-test.true c.count_at-count.ensures
+    (sym (count-refused _ _ _ _ _ _ _ _ c.requires.0 c.loop-j-test.true c.count_at-count.ensures
     c.description_at-index.ensures c.least-x.ensures c.least-y.ensures c.in_err-tail.ensures)
-    ∙ at.invariant.3)
+    ∙ at.invariant.1)
 
 pub overflow_cast-from : goal.overflow_cast-from
 overflow_cast-from c = omega arith
@@ -37,22 +37,14 @@ overflow_cast-to c = omega arith
 pub overflow_sub-to : goal.overflow_sub-to
 overflow_sub-to c = omega arith
 
-pub overflow_add-j : goal.overflow_add-j
-overflow_add-j c = omega arith
-
-pub loop-j-smaller : goal.loop-j-smaller
-loop-j-smaller c = omega arith
-
 pub loop-j-preserved : goal.loop-j-preserved
 loop-j-preserved c =
     let at = c.loop-j in (
       omega arith,
-      omega arith,
-      at.invariant.2,
-      sym (count-on _ _ _ _ _ _ _ _ at.invariant.2 c.loop-j-test.true c.count_at-count.ensures c.description_at-index.ensures
+      sym (count-on _ _ _ _ _ _ _ _ c.requires.0 c.loop-j-test.true c.count_at-count.ensures c.description_at-index.ensures
           c.least-x.ensures c.least-y.ensures c.in_ok-tail.ensures)
-          ∙ at.invariant.3,
+          ∙ at.invariant.1,
     )
 
 pub returns : goal.returns
-returns c = let at = c.loop-j in sym (count-end _ _ _ _ _ _ _ _ at.invariant.2 c.loop-j-test.false) ∙ at.invariant.3
+returns c = let at = c.loop-j in sym (count-end _ _ _ _ _ _ _ _ c.requires.0 c.loop-j-test.false) ∙ at.invariant.1

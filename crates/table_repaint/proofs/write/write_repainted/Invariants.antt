@@ -1,8 +1,6 @@
 -- The invariant is `Turn`: no record was stored before it was read.
 use mathlib.Core.Path.{◌≡◌}
-use Prim.Native.Nat.{◌-◌, ◌≤◌}
 use lib.ListN.{length}
-use Rattle.table_rows.specs.Row.{records_in}
 use Rattle.table_repaint.specs.Cut.{run}
 use Rattle.table_repaint.specs.Pass.{work_in}
 use Rattle.table_repaint.proofs.Turn.{Turn}
@@ -11,8 +9,5 @@ use Rattle.table_repaint.proofs.write.write_repainted.Given as goal
 
 abbrev pub invariant-loop-j : goal.invariant-loop-j
 invariant-loop-j l =
-    (1 ≤ l.j) × (l.j ≤ l.stated) × (l.stated ≤ records_in l.initial.rows) × (length l.rows ≡ length l.initial.rows)
+    (length l.rows ≡ length l.initial.rows)
     × Turn l.initial.rows (made_of l.initial.rows l.stated l.a l.b l.paint) l.stated l.j (run l.count l.index) l.from l.to l.paint (work_in l.rows l.tail)
-
-abbrev pub decreases-loop-j : goal.decreases-loop-j
-decreases-loop-j l = l.stated - l.j
