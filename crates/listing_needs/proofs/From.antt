@@ -4,6 +4,7 @@ use mathlib.Core.List.{List}
 use Prim.Native.Nat.{ℕ}
 use native.Mathlib.Omega.{arith}
 use lib.ListN.{length}
+use Rattle.std.specs.Prelude.{Option, Some, None}
 use Rattle.base_fields.specs.Answer.{given, refused}
 use Rattle.base_fields.specs.Span.{Span, bytes_at}
 use Rattle.atom_path.specs.Path.{stbl_at}
@@ -14,13 +15,10 @@ use Rattle.table_runs.specs.Ahead.{all_in, ahead_in, WholeIn}
 use Rattle.table_runs.specs.declared.SampleTable.{SampleTable}
 use Rattle.listing_theorem.specs.Meaning.{Meaning}
 use Rattle.listing_theorem.specs.Samples.{meaning_of, meanings}
-use Rattle.listing_theorem.specs.Listing.{listing}
 use Rattle.listing_spec.specs.Table.{entries_of}
 use Rattle.listing_spec.specs.Group.{Group, group_taken}
 use Rattle.listing_stretches.specs.Entered.{output_limit}
 use Rattle.listing_measure.specs.Measured.{listing_of, GivesLength}
-use Rattle.listing_measure.specs.declared.MeasuredListing.{MeasuredListing}
-use Rattle.listing_measure.specs.declared.MeasuredListing.TheVariants as measured
 use Rattle.listing_measure.proofs.Checked.{meanings-refused, listing-by}
 use Rattle.listing_needs.specs.Needs.{Needed, bytes_for, needs_of_listing, file_listing_needs}
 use Rattle.listing_needs.specs.Told.{measured_bytes, needed_by}
@@ -36,9 +34,9 @@ module _ (s : List ℕ) (t : ℕ) where
   group-needed e = rw e refl
 
 -- the measure with the limit of all outputs tells the bytes
-measured-bytes : (t : ℕ) (s : List ℕ) (ps : List Pattern) (m : MeasuredListing) → GivesLength t s ps output_limit m → measured_bytes m ≡ bytes_for (listing_of t s ps)
-measured-bytes t s ps (measured.Bytes n) g = omega (arith, g.0, g.1)
-measured-bytes t s ps measured.Over g = omega (arith, g)
+measured-bytes : (t : ℕ) (s : List ℕ) (ps : List Pattern) (m : Option ℕ) → GivesLength t s ps output_limit m → measured_bytes m ≡ bytes_for (listing_of t s ps)
+measured-bytes t s ps (Some n) g = omega (arith, g.0, g.1)
+measured-bytes t s ps None g = omega (arith, g)
 
 module _ (t : ℕ) (entries : List (List ℕ)) (ts : List ℕ) (tb : SampleTable) (whole : WholeIn ts tb (all_in tb)) (rows : ℕ) where
   abbrev patterns : List Pattern
@@ -51,7 +49,7 @@ module _ (t : ℕ) (entries : List (List ℕ)) (ts : List ℕ) (tb : SampleTable
 
   -- or passes
   pub gives-needed : (s : List ℕ) → entries_of s ≡ given entries → {ms : List Meaning} → meanings t entries (samples_of patterns) ≡ given ms
-      → (m : MeasuredListing) → GivesLength t s patterns output_limit m → given (record { rows = rows; bytes = measured_bytes m }) ≡ needed_by t entries patterns rows
+      → (m : Option ℕ) → GivesLength t s patterns output_limit m → given (record { rows = rows; bytes = measured_bytes m }) ≡ needed_by t entries patterns rows
   unfolding needed_by
   gives-needed s read meant m g =
       let with : ℕ → Needed = λ n. record { rows = rows; bytes = n } in

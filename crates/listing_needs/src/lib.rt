@@ -7,13 +7,13 @@ ghost use Rattle.table_runs.specs.Ahead.{all_in, WholeIn};
 ghost use Rattle.listing_needs.specs.Needs.{needs_of_listing, file_listing_needs};
 ghost use Rattle.listing_needs.specs.Told.{told_needs, measured_bytes, GivesNeeded};
 
-use base_fields::refusal::Refusal;
-use atom_path::{find_stbl};
+use atom_path::find_stbl;
 use base_fields::bytes_at;
+use base_fields::refusal::Refusal;
 use group_sgpd::{SgpdHead, entry_marks};
-use listing_group::{open_group};
-use listing_meanings::{check_used};
-use listing_measure::{measure_listing};
+use listing_group::open_group;
+use listing_meanings::check_used;
+use listing_measure::measure_listing;
 use table_needed::UNLIMITED;
 use table_runs::{SampleTable, count_samples};
 
@@ -85,12 +85,7 @@ pub fn listing_needs(body: &[u8], grouping_type: u32) -> Result<ListingNeeds, Re
 pub fn file_listing_needs(s: &[u8], track: u32, grouping_type: u32) -> Result<ListingNeeds, Refusal>
     ensures { told_needs result ≡ file_listing_needs s.now track grouping_type }
 {
-    let found = find_stbl(s, track);
-    match found {
-        Ok(body) => {
-            let stbl = bytes_at(s, body.place as usize, body.size as usize);
-            listing_needs(stbl, grouping_type)
-        }
-        Err(n) => Err(n),
-    }
+    let body = find_stbl(s, track)?;
+    let stbl = bytes_at(s, body.place as usize, body.size as usize);
+    listing_needs(stbl, grouping_type)
 }
