@@ -41,11 +41,12 @@ fn equal_words(s: &[u8], at: usize, stop: usize) -> usize
 {
     let word = read_u64(s, at - 8);
     let mut end = at;
+    // A `while`, since the end moves on by 8 bytes a step.
     while end + 8 <= stop {
         if read_u64(s, end) != word {
             return end;
         }
-        end = end + 8;
+        end += 8;
     }
     end
 }
