@@ -1,7 +1,6 @@
 // The C interface: sample tables, their rows in a lent run of u32 (a count and an index each), and lookups over such a run.
 #![tactic(auto)]
 
-ghost use Rattle.base_fields.specs.Refusal.{told_value};
 ghost use Rattle.table_rows.specs.Row.{records_in, lookup, total};
 ghost use Rattle.table_rows.specs.Found.{told_table};
 ghost use Rattle.table_sbgp.specs.Sbgp.{parse_sbgp};
