@@ -7,7 +7,7 @@ use borrow.Author.Tests.{lt-leb, le-leb, leb-false, ltb-false}
 use lib.Dec.{ltb, leb}
 use lib.ListN.{length, length-take}
 use Rattle.base_fields.specs.Answer.{Answer, given, refused, and_then, input_limit}
-use Rattle.base_fields.specs.Span.{Span, bytes_at}
+use Rattle.base_fields.specs.Span.{Span, span_of, bytes_at}
 use Rattle.base_fields.proofs.Answers.{given_inj, given-first, given-past}
 use Rattle.atom_path.specs.Path.{stbl_at}
 use Rattle.atom_path.proofs.Bodies.{stbl-within}
@@ -17,7 +17,7 @@ use Rattle.table_needed.specs.Needed.{unlimited}
 use Rattle.listing_spec.specs.Walk.{Sources, sources}
 use Rattle.listing_spec.specs.Group.{Group, group_taken}
 use Rattle.use_sample_group.specs.SampleGroup.{Grouped, entry, part_from, group_from, entry_places, group_of, sample_group, file_sample_group}
-use Rattle.use_sample_group.specs.Told.{told_group, StandsBehind}
+use Rattle.use_sample_group.specs.Told.{grouped, StandsBehind}
 use Rattle.use_sample_group.specs.declared.SampleGroup.{SampleGroup}
 use Rattle.use_sample_group.specs.declared.SampleGroup.TheVariants as group
 use Rattle.use_sample_group.proofs.Found.{group_leads, group-moved}
@@ -78,17 +78,16 @@ module _ (s : List ℕ) (t : ℕ) {taken : Sources} (walked : sources s t ≡ gi
   told_moved i e = rw (e, read, places-are) (ap given (sym (group-moved b.place es i)))
 
   -- and moved so it stays within the longest input
-  pub told-stands : b.place + b.size ≤ length s → (r : SampleGroup) (i : ℕ) → told_group r ≡ and_then (sgpd (bytes_at s b)) (λ entries. given (group_of entries i))
+  pub told-stands : b.place + b.size ≤ length s → (r : SampleGroup) (i : ℕ) → given (grouped r) ≡ and_then (sgpd (bytes_at s b)) (λ entries. given (group_of entries i))
       → StandsBehind b.place r
   told-stands h group.Outside i e = tt
   told-stands h (group.Missing j) i e = tt
-  told-stands h (group.Entry j place size) i e =
-      let led : group_of es i ≡ entry j.0 (record { place = place; size = size }) = given_inj (sym (rw read at e)) in
+  told-stands h (group.Entry j part) i e =
+      let led : group_of es i ≡ entry j.0 (span_of part) = given_inj (sym (rw read at e)) in
       let to = group_leads es i led in
-      let inside : place + size ≤ length (bytes_at s b) = rw (← (ap (λ (x : Span). x.place + x.size) to.entry)) (spans-inside (bytes_at s b) read (i - 1) to.there) in
+      let inside : part.place + part.size ≤ length (bytes_at s b) = rw (← (ap (λ (x : Span). x.place + x.size) to.entry)) (spans-inside (bytes_at s b) read (i - 1) to.there) in
       let short : length (bytes_at s b) ≤ b.size = simp length-take (omega arith) in
       omega (arith, inside, short, walk-short s t walked)
-  told-stands h (group.Refused n) i e = tt
 
 -- of a film
 module _ (s : List ℕ) (n t k : ℕ) where
@@ -105,10 +104,9 @@ module _ (s : List ℕ) (n t k : ℕ) where
     unfolding file_sample_group
     file_moved e = rw (e, found) refl
 
-    pub file_stands : (r : SampleGroup) → told_group r ≡ sample_group (bytes_at s b) t k → StandsBehind b.place r
+    pub file_stands : (r : SampleGroup) → given (grouped r) ≡ sample_group (bytes_at s b) t k → StandsBehind b.place r
     file_stands group.Outside e = tt
     file_stands (group.Missing j) e = tt
-    file_stands (group.Entry j place size) e =
+    file_stands (group.Entry j part) e =
         let short : length (bytes_at s b) ≤ b.size = simp length-take (omega arith) in
         omega (arith, group-inside (bytes_at s b) t k (sym e), short, stbl-within s n found, film-short found)
-    file_stands (group.Refused m) e = tt

@@ -7,10 +7,11 @@ ghost use Rattle.std.specs.Prelude.{◌≡◌};
 ghost use Rattle.use_sample_group.specs.SampleGroup.{sample_group, file_sample_group};
 ghost use Rattle.use_sample_group.specs.Told.{told_group};
 
-use atom_path::{find_stbl};
-use base_fields::bytes_at;
+use atom_path::find_stbl;
+use base_fields::refusal::Refusal;
+use base_fields::{Part, bytes_at};
 use base_ids::{DescriptionIndex, SampleNumber};
-use listing_group::{open_group};
+use listing_group::open_group;
 use parts::{entry_of, group_from, index_of};
 
 #[derive(Clone, Copy)]
@@ -19,22 +20,22 @@ pub enum SampleGroup {
     Outside,
     // An index past the entries.
     Missing(DescriptionIndex),
-    // The index, and the place and the length of the entry's bytes.
-    Entry(DescriptionIndex, usize, usize),
-    Refused(u32),
+    // The index, and where the entry's bytes stand.
+    Entry(DescriptionIndex, Part),
 }
 
 // The group of a sample in an stbl's body. An entry's place is counted in the body.
-pub fn sample_group(body: &[u8], grouping_type: u32, sample: SampleNumber) -> SampleGroup
+pub fn sample_group(
+    body: &[u8],
+    grouping_type: u32,
+    sample: SampleNumber,
+) -> Result<SampleGroup, Refusal>
     ensures { told_group result ≡ sample_group body.now grouping_type sample.0 }
 {
-    let group = match open_group(body, grouping_type, None) {
-        Ok(g) => g,
-        Err(n) => return SampleGroup::Refused(n),
-    };
+    let group = open_group(body, grouping_type, None)?;
     let wanted = sample.0 as u64;
     if group.count <= wanted {
-        return SampleGroup::Refused(62);
+        return Err(Refusal::FrameNotCovered);
     }
     let table = group.table;
     let place = group.sgpd_place;
@@ -43,8 +44,8 @@ pub fn sample_group(body: &[u8], grouping_type: u32, sample: SampleNumber) -> Sa
         table,
         wanted,
     );
-    let found = entry_of(bytes_at(body, place, group.sgpd_size), index);
-    group_from(place, found)
+    let found = entry_of(bytes_at(body, place, group.sgpd_size), index)?;
+    Ok(group_from(place, found))
 }
 
 // The same for the stbl of a track of a film, counted from 0. An entry's place is counted in the film's bytes.
@@ -53,16 +54,12 @@ pub fn file_sample_group(
     track: u32,
     grouping_type: u32,
     sample: SampleNumber,
-) -> SampleGroup
+) -> Result<SampleGroup, Refusal>
     ensures { told_group result ≡ file_sample_group s.now track grouping_type sample.0 }
 {
-    let found = find_stbl(s, track);
-    match found {
-        Ok(body) => {
-            let place = body.place as usize;
-            let stbl = bytes_at(s, place, body.size as usize);
-            group_from(place, sample_group(stbl, grouping_type, sample))
-        }
-        Err(n) => SampleGroup::Refused(n),
-    }
+    let body = find_stbl(s, track)?;
+    let place = body.place as usize;
+    let stbl = bytes_at(s, place, body.size as usize);
+    let group = sample_group(stbl, grouping_type, sample)?;
+    Ok(group_from(place, group))
 }

@@ -6,12 +6,13 @@ ghost use Rattle.table_patterns.specs.Place.{pattern_in, Stands};
 ghost use Rattle.table_rows.specs.Pattern.{index_in, index_of};
 ghost use Rattle.table_runs.specs.Ahead.{all_in, ahead_in, WholeIn};
 ghost use Rattle.use_sample_group.specs.SampleGroup.{group_from, group_of};
-ghost use Rattle.use_sample_group.specs.Told.{told_group, StandsBehind};
+ghost use Rattle.use_sample_group.specs.Told.{told_group, grouped, StandsBehind};
 
-use base_fields::Part;
 use super::SampleGroup;
+use base_fields::Part;
+use base_fields::refusal::Refusal;
 use base_ids::{DescriptionIndex, PatternCount};
-use group_sgpd::{entry_place};
+use group_sgpd::entry_place;
 use table_patterns::{PatternAt, index_at};
 use table_runs::{SampleTable, first_pattern, next_pattern};
 
@@ -47,30 +48,34 @@ pub fn index_of(s: &[u8], table: SampleTable, sample: u64) -> DescriptionIndex
 }
 
 // Where an index leads, by the entries of an sgpd's payload.
-pub fn entry_of(s: &[u8], index: DescriptionIndex) -> SampleGroup
+pub fn entry_of(s: &[u8], index: DescriptionIndex) -> Result<SampleGroup, Refusal>
     ensures { told_group result ≡ and_then (sgpd s.now) (λ entries. given (group_of entries index.0)) }
 {
-    match entry_place(s, index) {
-        Ok(Some(Part { place, size })) => SampleGroup::Entry(index, place, size),
-        Ok(None) => {
+    match entry_place(s, index)? {
+        Some(part) => Ok(SampleGroup::Entry(index, part)),
+        None => {
             if index.0 == 0 {
-                return SampleGroup::Outside;
+                return Ok(SampleGroup::Outside);
             }
-            SampleGroup::Missing(index)
+            Ok(SampleGroup::Missing(index))
         }
-        Err(n) => SampleGroup::Refused(n),
     }
 }
 
 // The same where the bytes stand at a place of others.
 pub fn group_from(place: usize, group: SampleGroup) -> SampleGroup
     requires { StandsBehind place group }
-    ensures { told_group result ≡ and_then (told_group group) (λ g. given (group_from place g)) }
+    ensures { grouped result ≡ group_from place (grouped group) }
 {
     match group {
         SampleGroup::Outside => SampleGroup::Outside,
         SampleGroup::Missing(index) => SampleGroup::Missing(index),
-        SampleGroup::Entry(index, at, size) => SampleGroup::Entry(index, place + at, size),
-        SampleGroup::Refused(n) => SampleGroup::Refused(n),
+        SampleGroup::Entry(index, part) => {
+            let moved = Part {
+                place: place + part.place,
+                size: part.size,
+            };
+            SampleGroup::Entry(index, moved)
+        }
     }
 }

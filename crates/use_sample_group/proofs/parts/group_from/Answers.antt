@@ -3,8 +3,8 @@ use mathlib.Core.Path.{refl}
 use native.Mathlib.Omega.{arith}
 use Rattle.use_sample_group.proofs.parts.group_from.Goals as goal
 
-pub overflow_add-result : goal.overflow_add-result
-overflow_add-result c = let fits = rw c.in-Entry.is at c.requires in omega (arith, fits)
+pub overflow_add-moved : goal.overflow_add-moved
+overflow_add-moved c = let fits = rw c.in-Entry.is at c.requires in omega (arith, fits)
 
 pub returns-in-Outside : goal.returns-in-Outside
 returns-in-Outside c = rw c.in-Outside.is refl
@@ -14,6 +14,3 @@ returns-in-Missing c = rw c.in-Missing.is refl
 
 pub returns-in-Entry : goal.returns-in-Entry
 returns-in-Entry c = rw c.in-Entry.is refl
-
-pub returns-in-Refused : goal.returns-in-Refused
-returns-in-Refused c = rw c.in-Refused.is refl

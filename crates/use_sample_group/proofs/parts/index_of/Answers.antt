@@ -14,27 +14,27 @@ overflow_cast-k c = omega (arith, c.if-k-count.true, c.struct_known-1.given)
 
 pub turn_index-requires : goal.turn_index-requires
 turn_index-requires c =
-    let step = rw c.in-Pattern.is at c.next_pattern.ensures in
+    let step = rw c.in-Some.is at c.next_pattern.ensures in
     step.stands
 
 pub returns-then-k-count : goal.returns-then-k-count
 returns-then-k-count c =
     let a = c.args in
-    let step = rw c.in-Pattern.is at c.next_pattern.ensures in
+    let step = rw c.in-Some.is at c.next_pattern.ensures in
     c.turn_index.ensures ∙ index-here a.s.now a.table c.loop-pattern.here _ _ step c.loop-pattern.k (omega (arith, c.if-k-count.true)) ∙ sym c.loop-pattern.invariant.1
 
 pub loop-pattern-smaller : goal.loop-pattern-smaller
 loop-pattern-smaller c =
-    let step = rw c.in-Pattern.is at c.next_pattern.ensures in
+    let step = rw c.in-Some.is at c.next_pattern.ensures in
     step.fewer
 
 pub loop-pattern-preserved : goal.loop-pattern-preserved
 loop-pattern-preserved c =
     let a = c.args in
-    let step = rw c.in-Pattern.is at c.next_pattern.ensures in
+    let step = rw c.in-Some.is at c.next_pattern.ensures in
     (step.whole, c.loop-pattern.invariant.1 ∙ index-behind a.s.now a.table c.loop-pattern.here _ _ step c.loop-pattern.k (omega (arith, c.if-k-count.false)))
 
-pub returns-in-End : goal.returns-in-End
-returns-in-End c =
-    let none = rw c.in-End.is at c.next_pattern.ensures in
+pub returns-in-None : goal.returns-in-None
+returns-in-None c =
+    let none = rw c.in-None.is at c.next_pattern.ensures in
     index-none none c.loop-pattern.k ∙ sym c.loop-pattern.invariant.1
