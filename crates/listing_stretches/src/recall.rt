@@ -11,8 +11,7 @@ const MEMORY: u32 = 16;
 pub fn remembers(memory: &[u32; 16], kept: u32, index: DescriptionIndex) -> bool
     ensures { GivesKept kept memory.now index.0 result }
 {
-    let mut k: u32 = 0;
-    while k < MEMORY {
+    for k in 0..MEMORY {
         if kept <= k {
             return false;
         }
@@ -20,7 +19,6 @@ pub fn remembers(memory: &[u32; 16], kept: u32, index: DescriptionIndex) -> bool
         if memory[at] == index.0 {
             return true;
         }
-        k = k + 1;
     }
     false
 }
