@@ -69,12 +69,10 @@ fn check_pattern(
 {
     let used = used_positions(pattern);
     let mut last = before;
-    let mut i: u32 = 0;
-    while i < used {
+    for i in 0..used {
         let index = index_at(table_s, pattern, i);
         check_index(s, head, marks, grouping_type, last, index)?;
         last = index;
-        i = i + 1;
     }
     Ok(last)
 }

@@ -45,7 +45,7 @@ module _ (c : After-check_index) where
 pub loop-i-init : goal.loop-i-init
 loop-i-init c =
     let indices = (pattern_in c.args.table_s.now c.args.pattern).indices in
-    (omega arith, passed_none (meaning_in c.args.grouping_type c.args.s.now) indices, c.requires.3)
+    (passed_none (meaning_in c.args.grouping_type c.args.s.now) indices, c.requires.3)
 
 pub index_at-index-requires : goal.index_at-index-requires
 index_at-index-requires c =
@@ -53,14 +53,13 @@ index_at-index-requires c =
 
 pub check_index-requires : goal.check_index-requires
 check_index-requires c =
-    (c.requires.1, c.requires.2, c.loop-i.invariant.2)
+    (c.requires.1, c.requires.2, c.loop-i.invariant.1)
 
 pub loop-i-preserved : goal.loop-i-preserved
 loop-i-preserved c =
     let l = (goal.at.loop-i-preserved c).At-loop-i in
     let has = given-first (meaning l (index (goal.at.loop-i-preserved c).After-check_index)) _ (sym (ap told_value (sym c.in_ok-check_index.was) ∙ c.check_index.ensures)) in (
-      omega arith,
-      passed-more (meaning l) (indices l) c.loop-i.i (below (goal.at.loop-i-preserved c).After-check_index) c.loop-i.invariant.1 (ap (meaning l) (sym (here (goal.at.loop-i-preserved c).After-check_index)) ∙ has.1),
+      passed-more (meaning l) (indices l) c.loop-i.i (below (goal.at.loop-i-preserved c).After-check_index) c.loop-i.invariant.0 (ap (meaning l) (sym (here (goal.at.loop-i-preserved c).After-check_index)) ∙ has.1),
       record { meaning = has.0; given = has.1 },
     )
 
@@ -70,10 +69,10 @@ returns-in_err-check_index c =
     let used = c.used_positions-used in
     let code = refused-first (meaning l (index (goal.at.returns-in_err-check_index c).After-check_index)) (λ v. tt) (sym (ap told_value (sym c.in_err-check_index.was) ∙ c.check_index.ensures)) in
     rw (handed c.from_residual.ensures) (ap (first_refusal (meaning l)) (used-taken _ _ used.result used.ensures)
-    ∙ refused-here (meaning l) (indices l) c.loop-i.i used.result (below (goal.at.returns-in_err-check_index c).After-check_index) c.loop-i-test.true c.loop-i.invariant.1 (ap (meaning l) (sym (here (goal.at.returns-in_err-check_index c).After-check_index)) ∙ code))
+    ∙ refused-here (meaning l) (indices l) c.loop-i.i used.result (below (goal.at.returns-in_err-check_index c).After-check_index) c.loop-i-test.true c.loop-i.invariant.0 (ap (meaning l) (sym (here (goal.at.returns-in_err-check_index c).After-check_index)) ∙ code))
 
 pub returns : goal.returns
 returns c =
     let used = c.used_positions-used in
-    let e : used.result ≡ c.loop-i.i = omega (arith, c.loop-i.invariant.0, c.loop-i-test.false) in
-    (ap (first_refusal (meaning (goal.at.returns c).At-loop-i)) (used-taken _ _ used.result used.ensures ∙ ap (λ (n : ℕ). take n (indices (goal.at.returns c).At-loop-i)) e) ∙ c.loop-i.invariant.1, c.loop-i.invariant.2)
+    let e : used.result ≡ c.loop-i.i = omega (arith, c.loop-i-test.false) in
+    (ap (first_refusal (meaning (goal.at.returns c).At-loop-i)) (used-taken _ _ used.result used.ensures ∙ ap (λ (n : ℕ). take n (indices (goal.at.returns c).At-loop-i)) e) ∙ c.loop-i.invariant.0, c.loop-i.invariant.1)

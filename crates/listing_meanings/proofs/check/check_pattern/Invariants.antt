@@ -1,5 +1,4 @@
 -- The loop's invariant: the indices before position i passed, and the last of them has a meaning.
-use Prim.Native.Nat.{◌≤◌, ◌-◌}
 use Rattle.table_patterns.specs.Place.{pattern_in}
 use Rattle.listing_meanings.specs.Meant.{meaning_in, HasMeaning}
 use Rattle.listing_meanings.proofs.Checking.{PassedBefore}
@@ -7,7 +6,4 @@ use Rattle.listing_meanings.proofs.check.check_pattern.Given as goal
 
 abbrev pub invariant-loop-i : goal.invariant-loop-i
 invariant-loop-i l =
-    (l.i ≤ l.used) × PassedBefore (meaning_in l.grouping_type l.s) (pattern_in l.table_s l.pattern).indices l.i × HasMeaning l.grouping_type l.s l.last.0
-
-abbrev pub decreases-loop-i : goal.decreases-loop-i
-decreases-loop-i l = l.used - l.i
+    PassedBefore (meaning_in l.grouping_type l.s) (pattern_in l.table_s l.pattern).indices l.i × HasMeaning l.grouping_type l.s l.last.0
