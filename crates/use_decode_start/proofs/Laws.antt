@@ -1,7 +1,7 @@
 -- What the contract is good for: it fixes the answer, and 29 is never one.
 use mathlib.Core.Path.{◌≡◌, refl, ap, sym, subst, ◌∙◌}
 use mathlib.Core.List.{List, [], ◌∷◌}
-use mathlib.Core.Option.{Option, none, some, some-injective, none-ne-some}
+use mathlib.Core.Option.{Option, some-injective, none-ne-some}
 use Prim.Native.Nat.{ℕ, suc}
 use borrow.Author.Rules.{rules}
 use lib.Dec.{leb}

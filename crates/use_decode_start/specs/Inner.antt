@@ -1,7 +1,9 @@
 -- What the inner steps answer.
-use Rattle.std.specs.Prelude.{ℕ, zero, suc, min, List, ℤ, pos, negsuc, length}
+use Rattle.std.specs.Prelude.{ℕ, zero, suc, min, List, ℤ, pos, negsuc, length, Result}
 use Rattle.std.proofs.Math.Option.{Option, none, some, bind}
-use Rattle.base_fields.specs.Answer.{Answer, given, refused, and_then}
+use Rattle.base_fields.specs.Answer.{Answer, given, and_then}
+use Rattle.base_fields.specs.Refusal.{told}
+use Rattle.base_fields.specs.declared.refusal.Refusal.{Refusal}
 use Rattle.table_rows.specs.Pattern.{Pattern}
 use Rattle.table_patterns.specs.declared.PatternAt.{PatternAt}
 use Rattle.table_views.specs.Used.{used, used_in, first_refusal}
@@ -10,28 +12,22 @@ use Rattle.listing_meanings.specs.Meant.{meaning_in}
 use Rattle.use_decode_start.specs.Start.{distance_told}
 use Rattle.use_decode_start.specs.declared.Distance.{Distance}
 use Rattle.use_decode_start.specs.declared.Distance.TheVariants as distance
-use Rattle.use_decode_start.specs.declared.Decoded.{Decoded}
-use Rattle.use_decode_start.specs.declared.Decoded.TheVariants as decoded
-use Rattle.use_decode_start.specs.declared.SearchedFor.{SearchedFor}
-use Rattle.use_decode_start.specs.declared.SearchedFor.TheVariants as searched
 
 abbrev pub told_distance : Distance → Option ℤ
 told_distance distance.Nothing = none
 told_distance (distance.Ahead n) = some (pos n)
 told_distance (distance.Behind n) = some (negsuc n)
 
-abbrev pub told_decoded : Decoded → Answer (Option ℤ)
-told_decoded (decoded.Distance d) = given (told_distance d)
-told_decoded (decoded.Refused n) = refused n
+abbrev pub told_decoded : Result Distance Refusal → Answer (Option ℤ)
+told_decoded = told told_distance
 
 -- a sample or none, by how many samples there are up to it
 abbrev pub told_latest : ℕ → Option ℕ
 told_latest zero = none
 told_latest (suc k) = some k
 
-abbrev pub told_search : SearchedFor → Answer (Option ℕ)
-told_search (searched.Latest b) = given (told_latest b)
-told_search (searched.Refused n) = refused n
+abbrev pub told_search : Result ℕ Refusal → Answer (Option ℕ)
+told_search = told told_latest
 
 -- frames are below this
 abbrev pub frame_limit : ℕ

@@ -1,11 +1,9 @@
--- Document 02's answer for each case of the enum of src/.
-use Rattle.std.specs.Prelude.{ℕ}
-use Rattle.base_fields.specs.Answer as answer
-use Rattle.base_fields.specs.Answer.{Answer, given, refused}
-use Rattle.use_decode_start.specs.declared.DecodeStart.{DecodeStart}
-use Rattle.use_decode_start.specs.declared.DecodeStart.TheVariants as start
+-- Document 02's answer for a call's result.
+use Rattle.std.specs.Prelude.{ℕ, Option, Result}
+use Rattle.base_fields.specs.Answer.{Answer}
+use Rattle.base_fields.specs.Refusal.{told_or_none}
+use Rattle.base_fields.specs.declared.refusal.Refusal.{Refusal}
+use Rattle.base_ids.specs.declared.SampleNumber.{SampleNumber}
 
-abbrev pub told_start : DecodeStart → Answer ℕ
-told_start (start.Sample k) = given k.0
-told_start start.Nothing = answer.none
-told_start (start.Refused n) = refused n
+abbrev pub told_start : Result (Option SampleNumber) Refusal → Answer ℕ
+told_start = told_or_none (λ (k : SampleNumber). k.0)

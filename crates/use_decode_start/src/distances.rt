@@ -10,11 +10,11 @@ ghost use Rattle.std.proofs.Math.Option.{some};
 ghost use Rattle.use_decode_start.specs.Start.{distance_of_value, distance_of_meaning};
 ghost use Rattle.use_decode_start.specs.Inner.{told_distance, told_decoded};
 
+use super::Distance;
 use base_fields::refusal::Refusal;
-use super::{Distance};
 use base_fields::{bytes_at, read_u16};
 use base_ids::DescriptionIndex;
-use group_alike::{front_of};
+use group_alike::front_of;
 use group_entries::{EntryLayout, layout_of};
 use group_sgpd::SgpdHead;
 use listing_meanings::{MeaningAt, meaning_at};
@@ -35,10 +35,7 @@ fn entry_distance(layout: EntryLayout, entry: &[u8]) -> Result<Distance, Refusal
     requires { length entry.now ≤ input_limit }
     ensures { told_decoded result ≡ and_then (decode_as layout entry.now) (λ v. given (distance_of_value v)) }
 {
-    match front_of(layout, entry) {
-        Ok(_) => {}
-        Err(n) => return Err(n),
-    }
+    front_of(layout, entry)?;
     let distance = match layout {
         EntryLayout::Roll => signed_distance(read_u16(entry, 0)),
         EntryLayout::Rap => Distance::Ahead(0),
@@ -59,8 +56,8 @@ fn meaning_distance(grouping_type: u32, s: &[u8], meaning: MeaningAt) -> Result<
     match meaning {
         MeaningAt::Outside => Ok(Distance::Nothing),
         MeaningAt::Missing => Ok(Distance::Nothing),
-        MeaningAt::Entry(place, size) => {
-            entry_distance(layout_of(grouping_type), bytes_at(s, place, size))
+        MeaningAt::Entry(part) => {
+            entry_distance(layout_of(grouping_type), bytes_at(s, part.place, part.size))
         }
     }
 }

@@ -18,7 +18,7 @@ use base_fields::refusal::Refusal;
 use base_fields::{bytes_at, fourcc};
 use base_ids::{SampleCount, SampleNumber};
 use group_sgpd::{SgpdHead, entry_marks};
-use listing_group::{open_group};
+use listing_group::open_group;
 use search::search_table;
 use table_runs::SampleTable;
 
@@ -58,7 +58,11 @@ fn start_in(
 }
 
 // For a type with distances.
-fn decode_start(body: &[u8], grouping_type: u32, frame: SampleNumber) -> Result<Option<SampleNumber>, Refusal>
+fn decode_start(
+    body: &[u8],
+    grouping_type: u32,
+    frame: SampleNumber,
+) -> Result<Option<SampleNumber>, Refusal>
     ensures { GivesStart body.now grouping_type frame.0 (told_start result) }
 {
     let group = open_group(body, grouping_type, None)?;

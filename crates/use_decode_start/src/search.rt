@@ -7,9 +7,9 @@ ghost use Rattle.table_views.specs.Used.{up_to_frame};
 ghost use Rattle.table_runs.specs.Ahead.{all_in, ahead_in, WholeIn};
 ghost use Rattle.use_decode_start.specs.Inner.{told_latest, told_search, frame_limit, cut_place, searched_pattern, searched_in};
 
-use base_fields::refusal::Refusal;
 use super::distances::index_distance;
 use super::positions::{best_at, later, least};
+use base_fields::refusal::Refusal;
 use base_ids::PatternCount;
 use group_sgpd::SgpdHead;
 use table_patterns::{PatternAt, index_at};
@@ -55,9 +55,9 @@ fn search_pattern(
                 latest = later(latest, best_at(wanted, start, count, length, i, d));
                 i = i + 1;
             }
-            Err(n) => {
+            Err(refusal) => {
                 if i < count {
-                    return Err(n);
+                    return Err(refusal);
                 }
                 i = i + 1;
             }
@@ -88,7 +88,7 @@ pub fn search_table(
         match next_pattern(table_s, table, here) {
             Some((pattern, behind)) => {
                 let piece = cut_pattern(pattern, left);
-                match search_pattern(
+                let best = search_pattern(
                     table_s,
                     piece,
                     s,
@@ -98,15 +98,11 @@ pub fn search_table(
                     wanted,
                     start,
                     latest,
-                ) {
-                    Ok(b) => {
-                        here = behind;
-                        left = left - piece.count as u64;
-                        start = start + piece.count as u64;
-                        latest = b;
-                    }
-                    Err(n) => return Err(n),
-                }
+                )?;
+                here = behind;
+                left = left - piece.count as u64;
+                start = start + piece.count as u64;
+                latest = best;
             }
             None => return Ok(latest),
         }

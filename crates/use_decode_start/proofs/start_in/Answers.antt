@@ -4,6 +4,7 @@ use mathlib.Core.List.{List, []}
 use mathlib.Core.Option.{Option, none, some}
 use Prim.Native.Nat.{ℕ, suc, ◌-◌, ◌<◌}
 use native.Mathlib.Omega.{arith}
+use Rattle.std.proofs.lemmas.Result.{err_from_is_err_and}
 use Rattle.base_fields.specs.Answer.{Answer, given, refused}
 use Rattle.table_rows.specs.Pattern.{Pattern, covered_by}
 use Rattle.table_runs.specs.Ahead.{all_in, ahead_in}
@@ -53,11 +54,12 @@ returns-then-covered-wanted c =
     let a = c.args in
     record { gives = λ g p e. not_covered a.grouping_type a.frame.0 g (rw p (omega (arith, c.if-covered-wanted.true, c.requires.1))) }
 
-pub returns-in-Refused : goal.returns-in-Refused
-returns-in-Refused c =
+pub returns-in_err-latest : goal.returns-in_err-latest
+returns-in_err-latest c =
     let a = c.args in
-    let past = (goal.at.returns-in-Refused c).Else-covered-wanted in
-    record { gives = λ g p e. refuses a.grouping_type a.frame.0 a.s.now (patterns past) (covers past) (full past) g p e (sym (ap told_search c.in-Refused.is) ∙ c.search_table.ensures) }
+    let past = (goal.at.returns-in_err-latest c).Else-covered-wanted in
+    let out = err_from_is_err_and c.from_residual.result c.from_residual.ensures.1 in
+    rw (out.1, out.2) record { gives = λ g p e. refuses a.grouping_type a.frame.0 a.s.now (patterns past) (covers past) (full past) g p e (sym (ap told_search c.in_err-latest.was) ∙ c.search_table.ensures) }
 
 pub returns-then-latest-eq0 : goal.returns-then-latest-eq0
 returns-then-latest-eq0 c =
@@ -66,20 +68,20 @@ returns-then-latest-eq0 c =
     record {
       gives = λ g p e.
           starts a.grouping_type a.frame.0 a.s.now (patterns past) (covers past) (full past) g p e
-          (latest c.in-Latest.b none (ap told_latest c.if-latest-eq0.true) (sym (ap told_search c.in-Latest.is) ∙ c.search_table.ensures));
+          (latest c.in_ok-latest.latest none (ap told_latest c.if-latest-eq0.true) (sym (ap told_search c.in_ok-latest.was) ∙ c.search_table.ensures));
     }
 
 -- which is a sample
 begun : (c : Else-latest-eq0) (g : Group) → (let a = c.args in g.patterns ≡ ahead_in a.table_s.now a.table (all_in a.table)) → entries_of c.args.s.now ≡ given g.entries
-    → StartsBy (searched_by c.args.grouping_type c.args.frame.0 g) c.args.grouping_type c.args.frame.0 (some (c.in-Latest.b - 1))
+    → StartsBy (searched_by c.args.grouping_type c.args.frame.0 g) c.args.grouping_type c.args.frame.0 (some (c.in_ok-latest.latest - 1))
 begun c g p e =
     let a = c.args in
     let patterns = ahead_in a.table_s.now a.table (all_in a.table) in
     let covers : a.frame.0 < covered_by patterns = omega (arith, c.if-covered-wanted.false, c.requires.1) in
     let full : Filled patterns = filled-ahead a.table_s.now a.table (all_in a.table) c.requires.0 in
-    let f : c.in-Latest.b ≡ suc (c.in-Latest.b - 1) = omega (arith, c.if-latest-eq0.false) in
+    let f : c.in_ok-latest.latest ≡ suc (c.in_ok-latest.latest - 1) = omega (arith, c.if-latest-eq0.false) in
     starts a.grouping_type a.frame.0 a.s.now patterns covers full g p e
-    (latest c.in-Latest.b (some (c.in-Latest.b - 1)) (ap told_latest f) (sym (ap told_search c.in-Latest.is) ∙ c.search_table.ensures))
+    (latest c.in_ok-latest.latest (some (c.in_ok-latest.latest - 1)) (ap told_latest f) (sym (ap told_search c.in_ok-latest.was) ∙ c.search_table.ensures))
 
 pub overflow_cast-result : goal.overflow_cast-result
 overflow_cast-result c =

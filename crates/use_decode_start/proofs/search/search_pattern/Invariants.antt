@@ -1,7 +1,6 @@
 -- The loop's invariant: the used ones of the indices before position i passed, and the greatest begin of all positions is that of the latest and of those from i on.
 use mathlib.Core.Path.{◌≡◌}
 use Prim.Native.Nat.{◌≤◌, ◌-◌, min}
-use lib.ListN.{length}
 use Rattle.table_patterns.specs.Place.{pattern_in}
 use Rattle.table_views.specs.Search.{larger}
 use Rattle.listing_meanings.specs.Meant.{meaning_in}

@@ -4,6 +4,7 @@ use mathlib.Core.Option.{Option}
 use Prim.Native.Nat.{ℕ, ◌+◌, ◌-◌, min}
 use native.Mathlib.Numerals.{add-one}
 use native.Mathlib.Omega.{arith}
+use Rattle.std.proofs.lemmas.Result.{err_from_is_err_and}
 use Rattle.base_fields.specs.Answer.{Answer}
 use Rattle.table_rows.specs.Pattern.{Pattern}
 use Rattle.table_patterns.specs.Place.{pattern_in, Stands}
@@ -13,7 +14,7 @@ use Rattle.table_runs.specs.Ahead.{ahead_in, Step}
 use Rattle.use_decode_start.specs.Inner.{told_latest, told_search, cut_place, searched_pattern, searched_on}
 use Rattle.use_decode_start.proofs.Searching.{search-on, search-refused, search-end, search-stop}
 use Rattle.use_decode_start.proofs.search.search_table.Goals as goal
-use Rattle.use_decode_start.proofs.search.search_table.Goals.{After-search_pattern, At-loop-left, In-Pattern}
+use Rattle.use_decode_start.proofs.search.search_table.Goals.{After-search_pattern, At-loop-left, In-Some}
 
 -- at the loop's head
 module _ (c : At-loop-left) where
@@ -22,18 +23,18 @@ module _ (c : At-loop-left) where
   search_from k n before ps = searched_on c.args.grouping_type c.args.s.now c.args.wanted k before (cut n ps)
 
 -- the first pattern ahead
-module _ (c : In-Pattern) where
-  step : Step c.args.table_s.now c.args.table c.loop-left.here c.in-Pattern.pattern c.in-Pattern.behind
-  step = rw c.in-Pattern.is at c.next_pattern.ensures
+module _ (c : In-Some) where
+  step : Step c.args.table_s.now c.args.table c.loop-left.here c.in-Some.pattern c.in-Some.behind
+  step = rw c.in-Some.is at c.next_pattern.ensures
 
 -- where its first samples are searched
 module _ (c : After-search_pattern) where
-  counted : min c.loop-left.left c.in-Pattern.pattern.count ≡ c.cut_pattern-piece.result.count
+  counted : min c.loop-left.left c.in-Some.pattern.count ≡ c.cut_pattern-piece.result.count
   counted = sym (ap (λ (p : PatternAt). p.count) c.cut_pattern-piece.ensures)
 
   searched : told_search c.search_pattern.result
       ≡ searched_pattern c.args.grouping_type c.args.s.now c.args.wanted c.loop-left.start (told_latest c.loop-left.latest)
-      (pattern_in c.args.table_s.now (cut_place c.loop-left.left c.in-Pattern.pattern))
+      (pattern_in c.args.table_s.now (cut_place c.loop-left.left c.in-Some.pattern))
   searched =
       c.search_pattern.ensures
       ∙ ap (λ (p : PatternAt). searched_pattern c.args.grouping_type c.args.s.now c.args.wanted c.loop-left.start (told_latest c.loop-left.latest) (pattern_in c.args.table_s.now p))
@@ -48,7 +49,7 @@ next_pattern-requires c = c.loop-left.invariant.0
 
 pub search_pattern-requires : goal.search_pattern-requires
 search_pattern-requires c =
-    let st = (step (goal.at.search_pattern-requires c).In-Pattern).stands in
+    let st = (step (goal.at.search_pattern-requires c).In-Some).stands in
     let stands = subst (λ (p : PatternAt). Stands c.args.table_s.now p) (sym c.cut_pattern-piece.ensures)
     (record { wide = st.wide; narrow = st.narrow; some = st.some; late = st.late; inside = st.inside; short = st.short }) in
     (stands, c.requires.1, c.requires.2, c.requires.3, omega (arith, c.loop-left.invariant.1, c.requires.3))
@@ -61,33 +62,35 @@ overflow_add-start c =
     omega (arith, counted (goal.at.overflow_add-start c).After-search_pattern, c.loop-left.invariant.1, c.requires.3)
 
 pub loop-left-smaller : goal.loop-left-smaller
-loop-left-smaller c = (step (goal.at.loop-left-smaller c).In-Pattern).fewer
+loop-left-smaller c = (step (goal.at.loop-left-smaller c).In-Some).fewer
 
 pub loop-left-preserved : goal.loop-left-preserved
 loop-left-preserved c =
-    let told = sym (ap told_search c.in-Latest.is) ∙ searched (goal.at.loop-left-preserved c).After-search_pattern in
-    let b = told_latest c.in-Latest.b in
-    let p = c.in-Pattern.pattern in
-    let rest = ahead_in c.args.table_s.now c.args.table c.in-Pattern.behind in
+    let told = sym (ap told_search c.in_ok-best-in-Some.was) ∙ searched (goal.at.loop-left-preserved c).After-search_pattern in
+    let b = told_latest c.in_ok-best-in-Some.best in
+    let p = c.in-Some.pattern in
+    let rest = ahead_in c.args.table_s.now c.args.table c.in-Some.behind in
     let n = c.cut_pattern-piece.result.count in
     let fewer : c.loop-left.left - p.count ≡ c.loop-left.left - n = omega (arith, counted (goal.at.loop-left-preserved c).After-search_pattern) in (
-      (step (goal.at.loop-left-preserved c).In-Pattern).whole,
+      (step (goal.at.loop-left-preserved c).In-Some).whole,
       omega (arith, counted (goal.at.loop-left-preserved c).After-search_pattern, c.loop-left.invariant.1),
       c.loop-left.invariant.2
-          ∙ search-on c.args.grouping_type c.args.s.now c.args.wanted c.loop-left.start c.loop-left.left (told_latest c.loop-left.latest) (step (goal.at.loop-left-preserved c).In-Pattern).first told
+          ∙ search-on c.args.grouping_type c.args.s.now c.args.wanted c.loop-left.start c.loop-left.left (told_latest c.loop-left.latest) (step (goal.at.loop-left-preserved c).In-Some).first told
           ∙ ap (λ (k : ℕ). search_from (goal.at.loop-left-preserved c).At-loop-left (c.loop-left.start + k) (c.loop-left.left - p.count) b rest) (counted (goal.at.loop-left-preserved c).After-search_pattern)
           ∙ ap (λ (k : ℕ). search_from (goal.at.loop-left-preserved c).At-loop-left (c.loop-left.start + n) k b rest) fewer,
     )
 
-pub returns-in-Refused : goal.returns-in-Refused
-returns-in-Refused c =
-    let told = sym (ap told_search c.in-Refused.is) ∙ searched (goal.at.returns-in-Refused c).After-search_pattern in
-    sym (c.loop-left.invariant.2
-    ∙ search-refused c.args.grouping_type c.args.s.now c.args.wanted c.loop-left.start c.loop-left.left (told_latest c.loop-left.latest) (step (goal.at.returns-in-Refused c).In-Pattern).first told)
+pub returns-in_err-best-in-Some : goal.returns-in_err-best-in-Some
+returns-in_err-best-in-Some c =
+    let told = sym (ap told_search c.in_err-best-in-Some.was) ∙ searched (goal.at.returns-in_err-best-in-Some c).After-search_pattern in
+    let out = err_from_is_err_and c.from_residual.result c.from_residual.ensures.1 in
+    rw (out.1, out.2)
+    (sym (c.loop-left.invariant.2
+    ∙ search-refused c.args.grouping_type c.args.s.now c.args.wanted c.loop-left.start c.loop-left.left (told_latest c.loop-left.latest) (step (goal.at.returns-in_err-best-in-Some c).In-Some).first told))
 
-pub returns-in-End : goal.returns-in-End
-returns-in-End c =
-    let end = rw c.in-End.is at c.next_pattern.ensures in
+pub returns-in-None : goal.returns-in-None
+returns-in-None c =
+    let end = rw c.in-None.is at c.next_pattern.ensures in
     sym (c.loop-left.invariant.2
     ∙ search-end c.args.grouping_type c.args.s.now c.args.wanted c.loop-left.start c.loop-left.left (told_latest c.loop-left.latest) end)
 
