@@ -12,7 +12,7 @@ ghost use Rattle.use_profile.specs.Survey.{kind_told, kind_in, is_gap, is_known,
 use super::SampleKind;
 use base_fields::bytes_at;
 use base_ids::DescriptionIndex;
-use group_entries::{decode_rap};
+use group_entries::decode_rap;
 use group_sgpd::SgpdHead;
 use listing_meanings::{MeaningAt, meaning_at};
 
@@ -77,7 +77,7 @@ fn meaning_kind(s: &[u8], meaning: MeaningAt) -> SampleKind
     match meaning {
         MeaningAt::Outside => SampleKind::Outside,
         MeaningAt::Missing => SampleKind::Missing,
-        MeaningAt::Entry(place, size) => entry_kind(bytes_at(s, place, size)),
+        MeaningAt::Entry(part) => entry_kind(bytes_at(s, part.place, part.size)),
     }
 }
 

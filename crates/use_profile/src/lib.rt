@@ -7,23 +7,48 @@ mod stretches;
 mod survey;
 
 ghost use Rattle.std.specs.Prelude.{◌≡◌};
+ghost use Rattle.base_fields.specs.Answer.{given};
 ghost use Rattle.group_sgpd.specs.Head.{ReadWhole};
 ghost use Rattle.table_rows.specs.Pattern.{covered_by};
 ghost use Rattle.table_runs.specs.Ahead.{all_in, ahead_in, WholeIn};
 ghost use Rattle.use_profile.specs.Profile.{GivesVerdict};
 ghost use Rattle.use_profile.specs.File.{GivesFileVerdict};
-ghost use Rattle.use_profile.specs.Told.{told_verdict};
+ghost use Rattle.use_profile.specs.Told.{number, verdict_told, told_verdict};
 ghost use Rattle.use_profile.specs.From.{JudgesIn};
 
+use atom_path::find_stbl;
 use base_fields::refusal::Refusal;
-use atom_path::{find_stbl};
 use base_fields::{INPUT_LIMIT, bytes_at, fourcc};
 use group_sgpd::{SgpdHead, entry_marks};
-use listing_group::{open_group};
-use listing_meanings::{check_used};
+use listing_group::open_group;
+use listing_meanings::check_used;
 use rules::judge;
 use survey::survey_table;
 use table_runs::SampleTable;
+
+// The rules of the profile.
+#[derive(Clone, Copy, Debug, PartialEq, Eq)]
+pub enum Rule {
+    // The cue listing is given for long enough buffers.
+    Listed = 1,
+    // Sample 0 has kind 2.
+    StartsInside = 2,
+    // No more than 600 samples in a row are of kinds 0 and 1 together.
+    ShortGaps = 3,
+    // Every sample of kind 2 says that its leading samples are known.
+    LeadingKnown = 4,
+    // No sample has kind 1.
+    NoneMissing = 5,
+}
+
+impl Rule {
+    // The number of document 02.
+    pub fn number(self) -> u32
+        ensures { result ≡ number self }
+    {
+        self as u32
+    }
+}
 
 // What an index means: kinds 0 and 1, and kind 2 by what it says of its leading samples.
 #[derive(Clone, Copy)]
@@ -52,16 +77,21 @@ struct Seen {
 }
 
 // In a group whose table covers so many samples: an entry that does not decode breaks rule 1; then rules 2 to 5.
-fn profile_in(table_s: &[u8], table: SampleTable, covered: u64, s: &[u8], head: SgpdHead) -> Result<Option<Rule>, Refusal>
+fn profile_in(
+    table_s: &[u8],
+    table: SampleTable,
+    covered: u64,
+    s: &[u8],
+    head: SgpdHead,
+) -> Option<Rule>
     requires { (WholeIn table_s.now table (all_in table)) × (covered ≡ covered_by (ahead_in table_s.now table (all_in table))) × (ReadWhole s.now head) }
-    ensures { JudgesIn table_s.now table s.now (told_verdict result) }
+    ensures { JudgesIn table_s.now table s.now (given (verdict_told result)) }
 {
     let marks = entry_marks(s, head);
     match check_used(table_s, table, s, head, &marks, fourcc::RAP) {
-        Ok(()) => {}
-        Err(_) => return Ok(Some(1)),
+        Ok(()) => judge(covered, survey_table(table_s, table, s, head, &marks)),
+        Err(_) => Some(Rule::Listed),
     }
-    judge(covered, survey_table(table_s, table, s, head, &marks))
 }
 
 // Whether the stbl of this body meets the profile, or the first rule that it breaks. A group that is not opened breaks rule 1.
@@ -72,22 +102,20 @@ pub fn profile(body: &[u8]) -> Result<Option<Rule>, Refusal>
         return Err(Refusal::InputTooLong);
     }
     let group = match open_group(body, fourcc::RAP, None) {
-        Ok(g) => g,
-        Err(_) => return Ok(Some(1)),
+        Ok(group) => group,
+        Err(_) => return Ok(Some(Rule::Listed)),
     };
     let table = group.table;
     let head = group.head;
     let table_s = bytes_at(body, group.table_place, group.table_size);
     let s = bytes_at(body, group.sgpd_place, group.sgpd_size);
-    profile_in(table_s, table, group.count, s, head)
+    Ok(profile_in(table_s, table, group.count, s, head))
 }
 
 // The same for the stbl of a track of a film, counted from 0.
 pub fn file_profile(s: &[u8], track: u32) -> Result<Option<Rule>, Refusal>
     ensures { GivesFileVerdict s.now track (told_verdict result) }
 {
-    match find_stbl(s, track) {
-        Ok(body) => profile(bytes_at(s, body.place as usize, body.size as usize)),
-        Err(n) => Err(n),
-    }
+    let body = find_stbl(s, track)?;
+    profile(bytes_at(s, body.place as usize, body.size as usize))
 }

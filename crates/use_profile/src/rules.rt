@@ -1,11 +1,9 @@
 // Rules 2 to 5, by what is seen of all samples.
 ghost use Rattle.std.specs.Prelude.{◌≡◌};
-ghost use Rattle.base_fields.specs.Answer.{given};
-ghost use Rattle.use_profile.specs.Told.{told_verdict};
+ghost use Rattle.use_profile.specs.Told.{verdict_told};
 ghost use Rattle.use_profile.specs.Survey.{starts_by_number, short_by, first_broken, verdict_by, told_gaps, told_seen};
 
-use base_fields::refusal::Refusal;
-use super::{Gaps, Seen};
+use super::{Gaps, Rule, Seen};
 
 // The most samples in a row that may be of kinds 0 and 1.
 const LONGEST_GAP: u64 = 600;
@@ -28,27 +26,27 @@ fn short_gaps(gaps: Gaps) -> bool
 }
 
 // The first of rules 2 to 5 that does not hold.
-fn first_broken(starts: bool, short: bool, known: bool, found: bool) -> Result<Option<Rule>, Refusal>
-    ensures { told_verdict result ≡ given (first_broken starts short known found) }
+fn first_broken(starts: bool, short: bool, known: bool, found: bool) -> Option<Rule>
+    ensures { verdict_told result ≡ first_broken starts short known found }
 {
     if !starts {
-        return Ok(Some(2));
+        return Some(Rule::StartsInside);
     }
     if !short {
-        return Ok(Some(3));
+        return Some(Rule::ShortGaps);
     }
     if !known {
-        return Ok(Some(4));
+        return Some(Rule::LeadingKnown);
     }
     if !found {
-        return Ok(Some(5));
+        return Some(Rule::NoneMissing);
     }
-    Ok(None)
+    None
 }
 
 // The verdict on a table that covers so many samples, once rule 1 holds.
-pub fn judge(covered: u64, seen: Seen) -> Result<Option<Rule>, Refusal>
-    ensures { told_verdict result ≡ given (verdict_by covered (told_seen seen)) }
+pub fn judge(covered: u64, seen: Seen) -> Option<Rule>
+    ensures { verdict_told result ≡ verdict_by covered (told_seen seen) }
 {
     first_broken(
         starts_inside(covered, seen.gaps),

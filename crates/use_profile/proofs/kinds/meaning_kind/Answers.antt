@@ -12,7 +12,7 @@ use Rattle.use_profile.proofs.kinds.meaning_kind.Goals.{In-Entry}
 
 -- an entry, and where it lies
 module _ (c : In-Entry) where
-  inside : c.in-Entry.place + c.in-Entry.size ≤ length c.args.s.now
+  inside : c.in-Entry.part.place + c.in-Entry.part.size ≤ length c.args.s.now
   inside = subst (λ (m : MeaningAt). InsideAt c.args.s.now m) c.in-Entry.is c.requires.1
 
 pub bytes_at-requires : goal.bytes_at-requires
@@ -20,7 +20,7 @@ bytes_at-requires c = inside c
 
 pub entry_kind-requires : goal.entry_kind-requires
 entry_kind-requires c =
-    rw c.bytes_at.ensures.bytes (part-short c.args.s.now (record { place = c.in-Entry.place; size = c.in-Entry.size }) c.requires.0)
+    rw c.bytes_at.ensures.bytes (part-short c.args.s.now (record { place = c.in-Entry.part.place; size = c.in-Entry.part.size }) c.requires.0)
 
 pub returns-in-Outside : goal.returns-in-Outside
 returns-in-Outside c = rw c.in-Outside.is refl

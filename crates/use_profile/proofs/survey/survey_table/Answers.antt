@@ -11,11 +11,11 @@ use Rattle.use_profile.proofs.Sizes.{both-fit}
 use Rattle.use_profile.proofs.Turns.{seen-at-most}
 use Rattle.use_profile.proofs.Tables.{Entered, entered-none, entered-more, entered_all, entered-few}
 use Rattle.use_profile.proofs.survey.survey_table.Goals as goal
-use Rattle.use_profile.proofs.survey.survey_table.Goals.{In-Pattern}
+use Rattle.use_profile.proofs.survey.survey_table.Goals.{In-Some}
 
 -- the first pattern ahead
-step : (c : In-Pattern) → Step c.args.table_s.now c.args.table c.loop-pattern.here c.in-Pattern.pattern c.in-Pattern.behind
-step c = rw c.in-Pattern.is at c.next_pattern.ensures
+step : (c : In-Some) → Step c.args.table_s.now c.args.table c.loop-pattern.here c.in-Some.pattern c.in-Some.behind
+step c = rw c.in-Some.is at c.next_pattern.ensures
 
 pub loop-pattern-init : goal.loop-pattern-init
 loop-pattern-init c =
@@ -32,29 +32,29 @@ next_pattern-requires c = c.loop-pattern.invariant.0
 
 pub survey_pattern-requires : goal.survey_pattern-requires
 survey_pattern-requires c =
-    ((step (goal.at.survey_pattern-requires c).In-Pattern).stands, c.requires.1, c.requires.2)
+    ((step (goal.at.survey_pattern-requires c).In-Some).stands, c.requires.1, c.requires.2)
 
 pub seen_behind-seen-requires : goal.seen_behind-seen-requires
 seen_behind-seen-requires c =
-    let p = pattern_in c.args.table_s.now c.in-Pattern.pattern in
+    let p = pattern_in c.args.table_s.now c.in-Some.pattern in
     let entered = c.loop-pattern.invariant.1 in
     let f = kind_in c.args.s.now in
     let n = length entered.before in
     let own = samples_from-length p 0 p.count in
-    let few = entered-few c.args.s.now (ahead_in c.args.table_s.now c.args.table (all_in c.args.table)) entered (step (goal.at.seen_behind-seen-requires c).In-Pattern).first in
+    let few = entered-few c.args.s.now (ahead_in c.args.table_s.now c.args.table (all_in c.args.table)) entered (step (goal.at.seen_behind-seen-requires c).In-Some).first in
     both-fit n p.count c.loop-pattern.seen.gaps c.survey_pattern.result.gaps
     (seen-at-most f entered.before n c.loop-pattern.seen entered.seen (omega arith))
     (seen-at-most f (samples_from p 0 p.count) p.count c.survey_pattern.result c.survey_pattern.ensures (omega (arith, own)))
     (omega (arith, few, c.requires.3))
 
 pub loop-pattern-smaller : goal.loop-pattern-smaller
-loop-pattern-smaller c = (step (goal.at.loop-pattern-smaller c).In-Pattern).fewer
+loop-pattern-smaller c = (step (goal.at.loop-pattern-smaller c).In-Some).fewer
 
 pub loop-pattern-preserved : goal.loop-pattern-preserved
 loop-pattern-preserved c =
-    let more = entered-more c.args.s.now (ahead_in c.args.table_s.now c.args.table (all_in c.args.table)) c.loop-pattern.invariant.1 (step (goal.at.loop-pattern-preserved c).In-Pattern).first in
-    ((step (goal.at.loop-pattern-preserved c).In-Pattern).whole, more c.survey_pattern.ensures c.seen_behind-seen.ensures)
+    let more = entered-more c.args.s.now (ahead_in c.args.table_s.now c.args.table (all_in c.args.table)) c.loop-pattern.invariant.1 (step (goal.at.loop-pattern-preserved c).In-Some).first in
+    ((step (goal.at.loop-pattern-preserved c).In-Some).whole, more c.survey_pattern.ensures c.seen_behind-seen.ensures)
 
-pub returns-in-End : goal.returns-in-End
-returns-in-End c =
-    entered_all c.args.s.now (ahead_in c.args.table_s.now c.args.table (all_in c.args.table)) c.loop-pattern.invariant.1 (rw c.in-End.is at c.next_pattern.ensures)
+pub returns-in-None : goal.returns-in-None
+returns-in-None c =
+    entered_all c.args.s.now (ahead_in c.args.table_s.now c.args.table (all_in c.args.table)) c.loop-pattern.invariant.1 (rw c.in-None.is at c.next_pattern.ensures)
