@@ -14,7 +14,8 @@ pub struct Tail {
     pub index: u32,
 }
 
-// `count` samples of one index join the last row, where it has that index, or begin a new one.
+// `count` samples of one index join the last row, where it has that index, or begin a new one: 28 where the last row's count would pass its
+// limit, 29 where a new row has no record left.
 pub fn enter_run(tail: Tail, room: usize, count: SampleCount, index: u32) -> Result<Tail, Refusal>
     ensures { told_value result ≡ enter_run room tail count index }
 {

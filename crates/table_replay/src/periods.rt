@@ -41,7 +41,7 @@ fn periods_alike(
 }
 
 // After k of the `count` samples of a pattern of `length` indices, where some are left: at the end of a period the periods alike are passed,
-// and the mark is set anew.
+// and the mark is set anew. Told are the rows, the samples passed and the next mark; none where the periods' rows have no record left.
 pub fn pass_periods(
     mark: Mark,
     tail: Tail,

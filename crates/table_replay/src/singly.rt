@@ -14,7 +14,7 @@ use table_rows::record::put_row;
 // How long a run may get before it is left for whole words.
 const SHORT: SampleCount = 16;
 
-// One sample joins the last row or begins a new one.
+// One sample joins the last row or begins a new one: none for a longer run, or where no record is left.
 fn enter_single(tail: Tail, room: usize, index: u32) -> Option<Tail>
     ensures { GivesSingle room tail index result }
 {
