@@ -15,19 +15,13 @@ use film_status::NONE;
 fn open_flag(size: Option<u64>) -> u64
     ensures { result ≡ absent (size_of size) }
 {
-    match size {
-        None => 1,
-        Some(_) => 0,
-    }
+    u64::from(size.is_none())
 }
 
 fn size_or_zero(size: Option<u64>) -> u64
     ensures { result ≡ or_zero (size_of size) }
 {
-    match size {
-        None => 0,
-        Some(n) => n,
-    }
+    size.unwrap_or(0)
 }
 
 fn parent_end(known: u32, end: u64) -> Option<u64>

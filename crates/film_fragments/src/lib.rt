@@ -8,7 +8,6 @@ ghost use Rattle.film_status.specs.Status.{Returns};
 ghost use Rattle.film_fragments.specs.Fragments.{GivesCall, GivesLookup, sum_numbers};
 
 use base_ids::RowNumber;
-use use_fragment_queue::Place;
 
 // A fragment comes with its rows.
 pub fn film_fragment_arrive(queue: &mut [u64; 132], rows: &[RowNumber]) -> u32
@@ -35,14 +34,9 @@ pub fn film_fragment_lookup(queue: &[u64; 132], sample: u64, out: &mut [u64; 2])
     ensures { GivesLookup queue.now sample out.old out.new result }
 {
     match use_fragment_queue::fragment_lookup(queue, sample) {
-        Ok(
-            Place {
-                fragment,
-                sample: within,
-            },
-        ) => {
-            out[0] = fragment;
-            out[1] = within;
+        Ok(place) => {
+            out[0] = place.fragment;
+            out[1] = place.sample;
             0
         }
         Err(refusal) => refusal.number(),

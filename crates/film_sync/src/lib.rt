@@ -6,19 +6,15 @@ ghost use Rattle.film_status.specs.Status.{Returns};
 ghost use Rattle.film_sync.specs.Sync.{sync_numbers, sample_numbers, dependency_numbers};
 
 use base_ids::{SampleCount, SampleNumber};
-use film_status::NONE;
+use film_status::{NONE, bit_of};
 
 // out: 1 where the sample, counted from 0, is a sync sample of the stss, else 0.
 pub fn film_is_sync_sample(s: &[u8], sample: SampleCount, out: &mut [u64; 1]) -> u32
     ensures { Returns (is_sync s.now sample) sync_numbers out.old out.new result }
 {
     match table_sync::is_sync_sample(s, SampleNumber(sample)) {
-        Ok(true) => {
-            out[0] = 1;
-            0
-        }
-        Ok(false) => {
-            out[0] = 0;
+        Ok(sync) => {
+            out[0] = bit_of(sync);
             0
         }
         Err(refusal) => refusal.number(),
