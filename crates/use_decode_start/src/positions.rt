@@ -1,32 +1,12 @@
 // The greatest begin of the samples of one position, by arithmetic. A sample or none is told by how many samples there are up to it, itself among them: 0 is none.
 // No step depends on whether there is one, so that a position costs the same whatever the counts are.
-ghost use Rattle.std.specs.Prelude.{◌≡◌, ◌-◌, ◌<◌, ◌≤◌, min, max, ltb};
+ghost use Rattle.std.specs.Prelude.{◌≡◌, ◌<◌, ◌≤◌, ltb};
 ghost use Rattle.base_fields.specs.Answer.{choose};
 ghost use Rattle.table_views.specs.Search as positions;
 ghost use Rattle.use_decode_start.specs.Inner.{told_distance, told_latest, frame_limit, begun_before};
 
 use super::Distance;
 use base_ids::PatternCount;
-
-pub fn least(a: u64, b: u64) -> u64
-    ensures { result ≡ min a b }
-{
-    if a < b { a } else { b }
-}
-
-// The later of two samples.
-pub fn later(a: u64, b: u64) -> u64
-    ensures { result ≡ max a b }
-{
-    if a < b { b } else { a }
-}
-
-// What is left of a without b, at least 0.
-fn without(a: u64, b: u64) -> u64
-    ensures { result ≡ a - b }
-{
-    if a < b { 0 } else { a - b }
-}
 
 // The last turn of a pattern is cut behind `cut` samples. How far before it the last turn begins that has a position: it is the cut one, or the one before it.
 fn turn_back(position: u32, cut: u32, length: u32) -> u32
@@ -40,7 +20,7 @@ fn last_below(limit: u64, start: u64, count: PatternCount, length: u32, position
     requires { (start ≤ frame_limit) × (position < length) }
     ensures { told_latest result ≡ positions.last_below limit start count length position }
 {
-    let n = least(count as u64, without(limit, start)) as PatternCount;
+    let n = (count as u64).min(limit.saturating_sub(start)) as PatternCount;
     let cut = n % length;
     let whole = n - cut;
     let back = turn_back(position, cut, length);
@@ -56,8 +36,7 @@ fn last_below(limit: u64, start: u64, count: PatternCount, length: u32, position
 fn before(at: u64, d: u16) -> u64
     ensures { told_latest result ≡ begun_before (told_latest at) d }
 {
-    let back = d as u64 + 1;
-    if at < back { 0 } else { at - back }
+    at.saturating_sub(d as u64 + 1)
 }
 
 // The greatest begin of a position, whose index has this distance.
@@ -75,7 +54,7 @@ pub fn best_at(
     match distance {
         Distance::Nothing => 0,
         Distance::Ahead(d) => {
-            let limit = without(wanted + 1, d as u64);
+            let limit = (wanted + 1).saturating_sub(d as u64);
             last_below(limit, start, count, length, position)
         }
         Distance::Behind(d) => { before(last_below(wanted + 1, start, count, length, position), d) }

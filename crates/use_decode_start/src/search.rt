@@ -8,7 +8,7 @@ ghost use Rattle.table_runs.specs.Ahead.{all_in, ahead_in, WholeIn};
 ghost use Rattle.use_decode_start.specs.Inner.{told_latest, told_search, frame_limit, cut_place, searched_pattern, searched_in};
 
 use super::distances::index_distance;
-use super::positions::{best_at, later, least};
+use super::positions::best_at;
 use base_fields::refusal::Refusal;
 use base_ids::PatternCount;
 use group_sgpd::SgpdHead;
@@ -21,7 +21,7 @@ fn cut_pattern(pattern: PatternAt, left: u64) -> PatternAt
 {
     PatternAt {
         length: pattern.length,
-        count: least(left, pattern.count as u64) as PatternCount,
+        count: left.min(pattern.count as u64) as PatternCount,
         width: pattern.width,
         indices: pattern.indices,
         marks: pattern.marks,
@@ -47,21 +47,18 @@ fn search_pattern(
     let count = pattern.count;
     let length = pattern.length;
     let mut latest = before;
-    let mut i: u32 = 0;
-    while i < length {
+    for i in 0..length {
         let index = index_at(table_s, pattern, i);
-        match index_distance(s, head, marks, grouping_type, index) {
-            Ok(d) => {
-                latest = later(latest, best_at(wanted, start, count, length, i, d));
-                i = i + 1;
-            }
+        let d = match index_distance(s, head, marks, grouping_type, index) {
+            Ok(d) => d,
             Err(refusal) => {
                 if i < count {
                     return Err(refusal);
                 }
-                i = i + 1;
+                continue;
             }
-        }
+        };
+        latest = latest.max(best_at(wanted, start, count, length, i, d));
     }
     Ok(latest)
 }
@@ -100,8 +97,8 @@ pub fn search_table(
                     latest,
                 )?;
                 here = behind;
-                left = left - piece.count as u64;
-                start = start + piece.count as u64;
+                left -= piece.count as u64;
+                start += piece.count as u64;
                 latest = best;
             }
             None => return Ok(latest),

@@ -12,7 +12,7 @@ returns-in-Nothing c = rw c.in-Nothing.is refl
 pub returns-in-Ahead : goal.returns-in-Ahead
 returns-in-Ahead c =
     let a = c.args in
-    rw c.in-Ahead.is (rw (c.without-limit.ensures, add-one) at c.last_below.ensures ∙ best-ahead a.wanted a.start a.count a.length a.position _)
+    rw c.in-Ahead.is (rw (c.saturating_sub-limit.ensures, add-one) at c.last_below.ensures ∙ best-ahead a.wanted a.start a.count a.length a.position _)
 
 pub returns-in-Behind : goal.returns-in-Behind
 returns-in-Behind c =

@@ -7,23 +7,23 @@ use Rattle.use_decode_start.specs.Inner.{told_latest}
 use Rattle.use_decode_start.proofs.Turns.{LastTurn, last_turn}
 use Rattle.use_decode_start.proofs.Bests.{last_none, last_some}
 use Rattle.use_decode_start.proofs.positions.last_below.Goals as goal
-use Rattle.use_decode_start.proofs.positions.last_below.Goals.{After-least-n, After-turn_back-back}
+use Rattle.use_decode_start.proofs.positions.last_below.Goals.{After-min-n, After-turn_back-back}
 
 -- the pattern's samples below the limit
-module _ (c : After-least-n) where
-  below : c.least-n.result ≡ min c.args.count (c.args.limit - c.args.start)
-  below = c.least-n.ensures ∙ ap (min c.args.count) c.without.ensures
+module _ (c : After-min-n) where
+  below : c.min-n.result ≡ min c.args.count (c.args.limit - c.args.start)
+  below = c.min-n.ensures ∙ ap (min c.args.count) c.saturating_sub.ensures
 
 -- and their last turn that has the position
 module _ (c : After-turn_back-back) where
-  turn : LastTurn c.args.length c.args.position c.requires.1 c.least-n.result (c.least-n.result - c.least-n.result % c.args.length) c.turn_back-back.result
-  turn = last_turn c.args.length c.args.position c.requires.1 c.least-n.result c.turn_back-back.ensures
+  turn : LastTurn c.args.length c.args.position c.requires.1 c.min-n.result (c.min-n.result - c.min-n.result % c.args.length) c.turn_back-back.result
+  turn = last_turn c.args.length c.args.position c.requires.1 c.min-n.result c.turn_back-back.ensures
 
 pub overflow_cast-n : goal.overflow_cast-n
-overflow_cast-n c = omega (arith, c.least-n.ensures)
+overflow_cast-n c = omega (arith, c.min-n.ensures)
 
 pub overflow_sub-whole : goal.overflow_sub-whole
-overflow_sub-whole c = omega (arith, mod-le c.least-n.result c.args.length)
+overflow_sub-whole c = omega (arith, mod-le c.min-n.result c.args.length)
 
 pub overflow_add-next : goal.overflow_add-next
 overflow_add-next c = omega (arith, c.requires.0)
@@ -37,11 +37,11 @@ overflow_add-result c = omega (arith, c.requires.0)
 pub returns-then-whole-back : goal.returns-then-whole-back
 returns-then-whole-back c =
     let at = c.args in
-    sym (last_none at.limit at.start at.count at.length at.position (omega (arith, below (goal.at.returns-then-whole-back c).After-least-n, (turn (goal.at.returns-then-whole-back c).After-turn_back-back).none c.if-whole-back.true)))
+    sym (last_none at.limit at.start at.count at.length at.position (omega (arith, below (goal.at.returns-then-whole-back c).After-min-n, (turn (goal.at.returns-then-whole-back c).After-turn_back-back).none c.if-whole-back.true)))
 
 pub returns-else-whole-back : goal.returns-else-whole-back
 returns-else-whole-back c =
     let at = c.args in
     let t = (turn (goal.at.returns-else-whole-back c).After-turn_back-back).some c.if-whole-back.false in
-    let e : at.start + at.position + 1 + (c.least-n.result - c.least-n.result % at.length - c.turn_back-back.result) ≡ suc (at.start + (at.position + (c.least-n.result - c.least-n.result % at.length - c.turn_back-back.result))) = omega arith in
-    ap told_latest e ∙ sym (rw (← below (goal.at.returns-else-whole-back c).After-least-n, t.1) at (last_some at.limit at.start at.count at.length at.position (omega (arith, below (goal.at.returns-else-whole-back c).After-least-n, t.0))))
+    let e : at.start + at.position + 1 + (c.min-n.result - c.min-n.result % at.length - c.turn_back-back.result) ≡ suc (at.start + (at.position + (c.min-n.result - c.min-n.result % at.length - c.turn_back-back.result))) = omega arith in
+    ap told_latest e ∙ sym (rw (← below (goal.at.returns-else-whole-back c).After-min-n, t.1) at (last_some at.limit at.start at.count at.length at.position (omega (arith, below (goal.at.returns-else-whole-back c).After-min-n, t.0))))

@@ -56,15 +56,15 @@ pub best_at-requires : goal.best_at-requires
 best_at-requires c =
     (c.requires.3, c.requires.4, omega (arith, sized (goal.at.best_at-requires c).At-loop-i, below (goal.at.best_at-requires c).After-index_distance))
 
-pub loop-i-preserved-in-Ok : goal.loop-i-preserved-in-Ok
-loop-i-preserved-in-Ok c =
+pub loop-i-preserved : goal.loop-i-preserved
+loop-i-preserved c =
     let has = distance-given ((meaning_in c.args.grouping_type c.args.s.now) c.index_at-index.result.0) (rw c.in-Ok.is at c.index_distance.ensures) in
     let own = c.best_at.ensures
-    ∙ ap (best_at c.args.wanted c.args.start c.args.pattern.count c.args.pattern.length c.loop-i.i) (sym has.1 ∙ ap (distance_in c.args.grouping_type c.args.s.now) (here (goal.at.loop-i-preserved-in-Ok c).After-index_distance)) in
-    let grown = ap told_latest c.later-latest.ensures ∙ larger-told c.loop-i.latest c.best_at.result in
-    let step = best-step (distance_in c.args.grouping_type c.args.s.now) c.args.wanted c.args.start c.args.pattern.count c.args.pattern.length ((pattern_in c.args.table_s.now c.args.pattern).indices) c.loop-i.i (below (goal.at.loop-i-preserved-in-Ok c).After-index_distance) in (
+    ∙ ap (best_at c.args.wanted c.args.start c.args.pattern.count c.args.pattern.length c.loop-i.i) (sym has.1 ∙ ap (distance_in c.args.grouping_type c.args.s.now) (here (goal.at.loop-i-preserved c).After-index_distance)) in
+    let grown = ap told_latest c.max-latest.ensures ∙ larger-told c.loop-i.latest c.best_at.result in
+    let step = best-step (distance_in c.args.grouping_type c.args.s.now) c.args.wanted c.args.start c.args.pattern.count c.args.pattern.length ((pattern_in c.args.table_s.now c.args.pattern).indices) c.loop-i.i (below (goal.at.loop-i-preserved c).After-index_distance) in (
       omega (arith, c.loop-i-test.true),
-      passed-used (meaning_in c.args.grouping_type c.args.s.now) ((pattern_in c.args.table_s.now c.args.pattern).indices) c.args.pattern.count c.loop-i.i (below (goal.at.loop-i-preserved-in-Ok c).After-index_distance) c.loop-i.invariant.1 (λ u. (has.0.0, ap (meaning_in c.args.grouping_type c.args.s.now) (sym (here (goal.at.loop-i-preserved-in-Ok c).After-index_distance)) ∙ has.0.1)),
+      passed-used (meaning_in c.args.grouping_type c.args.s.now) ((pattern_in c.args.table_s.now c.args.pattern).indices) c.args.pattern.count c.loop-i.i (below (goal.at.loop-i-preserved c).After-index_distance) c.loop-i.invariant.1 (λ u. (has.0.0, ap (meaning_in c.args.grouping_type c.args.s.now) (sym (here (goal.at.loop-i-preserved c).After-index_distance)) ∙ has.0.1)),
       c.loop-i.invariant.2
           ∙ ap (λ (o : Option ℕ). larger (told_latest c.loop-i.latest) o) step
           ∙ sym (larger_assoc (told_latest c.loop-i.latest) _ ((best_behind (distance_in c.args.grouping_type c.args.s.now) c.args.wanted c.args.start c.args.pattern.count c.args.pattern.length ((pattern_in c.args.table_s.now c.args.pattern).indices)) (c.loop-i.i + 1)))
@@ -80,14 +80,14 @@ returns-then-i-count c =
     ∙ refused-here (meaning_in c.args.grouping_type c.args.s.now) ((pattern_in c.args.table_s.now c.args.pattern).indices) c.loop-i.i (min c.args.pattern.length c.args.pattern.count) (below (goal.at.returns-then-i-count c).After-index_distance) (omega (arith, c.if-i-count.true, c.loop-i-test.true)) (rw e at c.loop-i.invariant.1) (ap (meaning_in c.args.grouping_type c.args.s.now) (sym (here (goal.at.returns-then-i-count c).After-index_distance)) ∙ code) in
     rw first refl
 
-pub loop-i-preserved : goal.loop-i-preserved
-loop-i-preserved c =
+pub loop-i-preserved-in-Err : goal.loop-i-preserved-in-Err
+loop-i-preserved-in-Err c =
     let over : c.args.pattern.count ≤ c.loop-i.i = omega (arith, c.if-i-count.false) in (
       omega (arith, c.loop-i-test.true),
-      passed-used (meaning_in c.args.grouping_type c.args.s.now) ((pattern_in c.args.table_s.now c.args.pattern).indices) c.args.pattern.count c.loop-i.i (below (goal.at.loop-i-preserved c).After-index_distance) c.loop-i.invariant.1 (λ u. absurd (omega (arith, over, u))),
+      passed-used (meaning_in c.args.grouping_type c.args.s.now) ((pattern_in c.args.table_s.now c.args.pattern).indices) c.args.pattern.count c.loop-i.i (below (goal.at.loop-i-preserved-in-Err c).After-index_distance) c.loop-i.invariant.1 (λ u. absurd (omega (arith, over, u))),
       c.loop-i.invariant.2
           ∙ ap (λ (o : Option ℕ). larger (told_latest c.loop-i.latest) o)
-          (nothing-behind (goal.at.loop-i-preserved c).At-loop-i c.loop-i.i (omega (arith, over)) ∙ sym (nothing-behind (goal.at.loop-i-preserved c).At-loop-i (c.loop-i.i + 1) (omega (arith, over)))),
+          (nothing-behind (goal.at.loop-i-preserved-in-Err c).At-loop-i c.loop-i.i (omega (arith, over)) ∙ sym (nothing-behind (goal.at.loop-i-preserved-in-Err c).At-loop-i (c.loop-i.i + 1) (omega (arith, over)))),
     )
 
 pub returns : goal.returns
