@@ -30,8 +30,8 @@ pub fn decode_alst(payload: &[u8]) -> Result<AlternativeStartup, Refusal>
 pub fn alst_sample_offset(payload: &[u8], k: u32) -> Result<Option<u32>, Refusal>
     ensures { told_offset result ≡ within payload.now (alst_offset payload.now k) }
 {
-    let plain = decode_alst(payload)?;
-    if (plain.roll_count as u32) <= k {
+    let roll_count = decode_alst(payload)?.roll_count;
+    if (roll_count as u32) <= k {
         return Ok(None);
     }
     Ok(Some(base_fields::read_u32(payload, 4 + 4 * (k as usize))))
