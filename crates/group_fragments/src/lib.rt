@@ -47,10 +47,7 @@ fn in_film(
 {
     let found = group_sgpd::entry_place(film, index)?;
     group_sgpd::parse_sgpd(fragment)?;
-    match found {
-        Some(part) => Ok(Some(FoundPart::Film(part))),
-        None => Ok(None),
-    }
+    Ok(found.map(FoundPart::Film))
 }
 
 // An entry of the fragment's payload, once both are read.
@@ -63,10 +60,7 @@ fn in_fragment(
 {
     group_sgpd::parse_sgpd(film)?;
     let found = group_sgpd::entry_place(fragment, index)?;
-    match found {
-        Some(part) => Ok(Some(FoundPart::Fragment(part))),
-        None => Ok(None),
-    }
+    Ok(found.map(FoundPart::Fragment))
 }
 
 // The place and the length of the entry that an index names, in the payload that bit 31 picks.
