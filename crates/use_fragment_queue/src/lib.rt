@@ -36,7 +36,7 @@ const ROOM: u64 = 64;
 // 64 times the limit of a fragment: no sum of a queue made by these calls is greater.
 const SUM_LIMIT: u64 = 274877906880;
 
-// A fragment comes with its rows: 55, 28, or 71 where the queue is full.
+// A fragment comes with its rows: 55, 28, or 71 where the queue is full. Where it is refused, the queue is as it was.
 pub fn fragment_arrive(queue: &mut [u64; 132], rows: &[RowNumber]) -> Result<(), Refusal>
     ensures { GivesQueue (arrive (rows_of rows.now)) queue.old queue.new (told_value result) }
 {
@@ -68,7 +68,7 @@ pub fn fragment_arrive(queue: &mut [u64; 132], rows: &[RowNumber]) -> Result<(),
     Ok(())
 }
 
-// The oldest fragment leaves: 72 where none is held.
+// The oldest fragment leaves: 72 where none is held, and the queue is as it was.
 pub fn fragment_depart(queue: &mut [u64; 132]) -> Result<(), Refusal>
     ensures { GivesQueue depart queue.old queue.new (told_value result) }
 {

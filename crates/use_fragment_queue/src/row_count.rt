@@ -25,7 +25,7 @@ fn member_samples(index: u32, n: u64) -> u64
     if index == 0 { 0 } else { n }
 }
 
-// The limit is asked by what is left of it, so that no sum passes it.
+// 28 where the samples are more than a fragment may have. The limit is asked by what is left of it, so that no sum passes it.
 pub fn count_fragment(rows: &[RowNumber]) -> Result<FragmentSamples, Refusal>
     ensures { told_counted result ≡ counts (rows_of rows.now) }
 {
