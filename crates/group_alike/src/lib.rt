@@ -119,6 +119,7 @@ fn same_blocks(a: &[u8], b: &[u8], n: usize) -> bool
 {
     let last = n - 128;
     let mut i: usize = 0;
+    // no `for`: a step passes 128 bytes
     while i < last {
         if differing_128(a, b, i) != 0 {
             return false;

@@ -23,8 +23,7 @@ pub(crate) fn found_at(
     requires count_nonzero { 0 < count }
     ensures { told_entry result ≡ span_at s.now at }
 {
-    let part = span_at(s, lengths, count, at)?;
-    Ok(Some(part))
+    span_at(s, lengths, count, at).map(Some)
 }
 
 // An entry within the count: those before it, then it and those behind it, so that the bytes are read once.

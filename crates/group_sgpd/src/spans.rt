@@ -104,6 +104,7 @@ fn skip_shared(s: &[u8], count: u32, at: usize, n: u32) -> Result<usize, Refusal
 {
     let mut bytes = (s.len() - at) as u32;
     let mut left = n;
+    // no `for`: a step passes several entries
     while 0 < left {
         let share = bytes / count;
         if share == 0 {
@@ -111,8 +112,8 @@ fn skip_shared(s: &[u8], count: u32, at: usize, n: u32) -> Result<usize, Refusal
         }
         let alike = bytes % count / share + 1;
         let passed = if left < alike { left } else { alike };
-        bytes = bytes - passed * share;
-        left = left - passed;
+        bytes -= passed * share;
+        left -= passed;
     }
     Ok(s.len() - bytes as usize)
 }
