@@ -38,7 +38,7 @@ fn row_at(s: &[u8], at: usize) -> PatternAt
     }
 }
 
-// The first of the patterns ahead.
+// The first of the patterns ahead, and those behind it.
 pub fn next_pattern(
     s: &[u8],
     table: SampleTable,
@@ -75,13 +75,9 @@ pub fn count_samples(s: &[u8], table: SampleTable) -> u64
 {
     let mut here = first_pattern(table);
     let mut sum: u64 = 0;
-    loop {
-        match next_pattern(s, table, here) {
-            Some((pattern, behind)) => {
-                sum = sum + pattern.count as u64;
-                here = behind;
-            }
-            None => return sum,
-        }
+    while let Some((pattern, behind)) = next_pattern(s, table, here) {
+        sum += pattern.count as u64;
+        here = behind;
     }
+    sum
 }

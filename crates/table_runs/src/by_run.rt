@@ -17,7 +17,7 @@ pub fn first_run(table: SampleTable) -> RunCursor
     }
 }
 
-// The next samples of one index.
+// The next samples of one index: how many, the index, and the cursor behind them.
 pub fn next_run(
     s: &[u8],
     table: SampleTable,
@@ -28,21 +28,17 @@ pub fn next_run(
 {
     let mut here = cursor.here;
     let mut k = cursor.sample;
-    loop {
-        match next_pattern(s, table, here) {
-            Some((pattern, behind)) => {
-                if k < pattern.count {
-                    let run = run_at(s, pattern, k);
-                    let behind = RunCursor {
-                        here,
-                        sample: k + run.count,
-                    };
-                    return Some((run.count, DescriptionIndex(run.index), behind));
-                }
-                here = behind;
-                k = 0;
-            }
-            None => return None,
+    while let Some((pattern, behind)) = next_pattern(s, table, here) {
+        if k < pattern.count {
+            let run = run_at(s, pattern, k);
+            let behind = RunCursor {
+                here,
+                sample: k + run.count,
+            };
+            return Some((run.count, DescriptionIndex(run.index), behind));
         }
+        here = behind;
+        k = 0;
     }
+    None
 }

@@ -25,9 +25,9 @@ loop-pattern-preserved c =
     let all = rw step.first at c.loop-pattern.invariant.1 in
     (step.whole, omega (arith, all), omega (arith, c.loop-pattern.invariant.2, step.fewer), c.loop-pattern.invariant.3)
 
-pub returns-in-None : goal.returns-in-None
+pub returns : goal.returns
 unfolding covered_by
-returns-in-None c =
-    let none = rw c.in-None.is at c.next_pattern.ensures in
+returns c =
+    let none = rw c.in_default.is at c.next_pattern.ensures in
     let all = rw none at c.loop-pattern.invariant.1 in
     (omega (arith, all), omega (arith, c.loop-pattern.invariant.2, c.loop-pattern.invariant.3))

@@ -41,7 +41,7 @@ loop-pattern-preserved c =
     let step = rw c.in-Some.is at c.next_pattern.ensures in
     (step.whole, c.loop-pattern.invariant.1 ∙ passed_over c.args.s.now c.args.table here _ _ step k c.if-k-pattern.false)
 
-pub returns-in-None : goal.returns-in-None
-returns-in-None c =
-    let none = rw c.in-None.is at c.next_pattern.ensures in
+pub returns : goal.returns
+returns c =
+    let none = rw c.in_default.is at c.next_pattern.ensures in
     c.loop-pattern.invariant.1 ∙ rw none refl
