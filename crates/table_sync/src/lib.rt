@@ -51,7 +51,7 @@ fn last_number(s: &[u8], count: u32, limit: u64) -> Result<u32, Refusal>
     Ok(found)
 }
 
-// The greatest number of an stss up to a limit.
+// The greatest number of an stss up to a limit; 0 where there is none.
 fn number_up_to(s: &[u8], limit: u64) -> Result<u32, Refusal>
     ensures { told_value result ≡ and_then (stss s.now) (λ numbers. given (last_up_to limit numbers)) }
 {
