@@ -5,6 +5,7 @@
 mod listing;
 mod structs;
 
+use base_fields::refusal::Refusal;
 use base_ids::DescriptionIndex;
 use std::io;
 use table_front::TableKind;
@@ -36,12 +37,9 @@ fn is_two(part: &[u8], a: u8, b: u8) -> bool {
     part[0] == a && part[1] == b
 }
 
-// The refusal of the lookup over two descriptions; 0 where there is none.
-fn refusal(film: &[u8], fragment: &[u8], raw: u32) -> u32 {
-    match group_fragments::described_place(film, fragment, raw) {
-        Ok(_) => 0,
-        Err(refusal) => refusal.number(),
-    }
+// The refusal of the lookup over two descriptions.
+fn refusal(film: &[u8], fragment: &[u8], raw: u32) -> Option<Refusal> {
+    group_fragments::described_place(film, fragment, raw).err()
 }
 
 fn runs(rt: &impl Print) -> io::Result<()> {
@@ -89,7 +87,7 @@ fn refusals(rt: &impl Print) -> io::Result<()> {
     tell(
         rt,
         "the film's refusal first",
-        refusal(short, cut, 0x8000_0001) == 30,
+        refusal(short, cut, 0x8000_0001) == Some(Refusal::ShortSgpd),
     )
 }
 

@@ -1,26 +1,31 @@
 // Tables read into row structs, beside the same tables in flat rows, and the readers and writers of row structs.
-use base_fields::refusal::Refusal;
 use super::tell;
-use base_ids::SampleNumber;
+use base_fields::refusal::Refusal;
+use base_ids::{DescriptionIndex, SampleNumber};
 use std::io;
-use table_row_structs::{SampleToGroupEntry};
+use table_row_structs::SampleToGroupEntry;
+use table_rows::SampleToGroup;
 use test_struct_runs::TableRead;
 
-// Both are refused with this number; or, where it is 0, both are tables of the same type with as many rows.
-fn same_answer(a: Result<SampleToGroup, Refusal>, b: Result<SampleToGroup, Refusal>, refusal: u32) -> bool {
+// Both are refused so; or, where nothing is to be refused, both are tables of the same type with as many rows.
+fn same_answer(
+    a: Result<SampleToGroup, Refusal>,
+    b: Result<SampleToGroup, Refusal>,
+    refusal: Option<Refusal>,
+) -> bool {
     match a {
         Ok(x) => match b {
             Ok(y) => {
-                refusal == 0
+                refusal.is_none()
                     && x.grouping_type == y.grouping_type
                     && x.grouping_type_parameter == y.grouping_type_parameter
                     && x.entry_count == y.entry_count
             }
             Err(_) => false,
         },
-        Err(n) => match b {
+        Err(first) => match b {
             Ok(_) => false,
-            Err(m) => n == refusal && m == refusal,
+            Err(second) => refusal == Some(first) && refusal == Some(second),
         },
     }
 }
@@ -48,18 +53,21 @@ fn numbers_of(rows: [SampleToGroupEntry; 4]) -> [u32; 8] {
 }
 
 fn same_numbers(a: &[u32; 8], b: &[u32; 8]) -> bool {
-    let mut k: usize = 0;
-    while k < 8 {
+    for k in 0..8 {
         if a[k] != b[k] {
             return false;
         }
-        k = k + 1;
     }
     true
 }
 
-// A table in row structs has the answer and the rows that it has in flat rows; the answer is a table for refusal 0, else that refusal.
-fn same_read(read: TableRead, answer: Result<SampleToGroup, Refusal>, flat: &[u32; 8], refusal: u32) -> bool {
+// A table in row structs has the answer and the rows that it has in flat rows; the answer is a table, or this refusal.
+fn same_read(
+    read: TableRead,
+    answer: Result<SampleToGroup, Refusal>,
+    flat: &[u32; 8],
+    refusal: Option<Refusal>,
+) -> bool {
     let told = read.answer;
     let rows = read.rows;
     let numbers = numbers_of(rows);
@@ -69,7 +77,7 @@ fn same_read(read: TableRead, answer: Result<SampleToGroup, Refusal>, flat: &[u3
     false
 }
 
-fn sbgp_agrees(s: &[u8], refusal: u32) -> bool {
+fn sbgp_agrees(s: &[u8], refusal: Option<Refusal>) -> bool {
     let mut flat = [7u32; 8];
     let answer = table_sbgp::parse_sbgp(s, &mut flat);
     same_read(
@@ -80,7 +88,7 @@ fn sbgp_agrees(s: &[u8], refusal: u32) -> bool {
     )
 }
 
-fn csgp_agrees(s: &[u8], refusal: u32) -> bool {
+fn csgp_agrees(s: &[u8], refusal: Option<Refusal>) -> bool {
     let mut flat = [7u32; 8];
     let answer = table_csgp::parse_csgp(s, &mut flat);
     same_read(
@@ -167,7 +175,7 @@ fn reads_agree(numbers: [u32; 8], k: usize, sample: u32) -> bool {
 fn told_written(r: Result<usize, Refusal>) -> u64 {
     match r {
         Ok(n) => n as u64,
-        Err(n) => 1000 + n as u64,
+        Err(refusal) => 1000 + refusal.number() as u64,
     }
 }
 
@@ -229,27 +237,31 @@ fn run_rows(rt: &impl Print) -> io::Result<()> {
 fn run_sbgp(rt: &impl Print) -> io::Result<()> {
     let rows =
         b"\x00\x00\x00\x00rap \x00\x00\x00\x02\x00\x00\x00\x03\x00\x00\x00\x01\x00\x00\x00\x02\x00\x00\x00\x09";
-    tell(rt, "sbgp in row structs", sbgp_agrees(rows, 0))?;
+    tell(rt, "sbgp in row structs", sbgp_agrees(rows, None))?;
     let cut =
         b"\x00\x00\x00\x00rap \x00\x00\x00\x02\x00\x00\x00\x03\x00\x00\x00\x01\x00\x00\x00\x02\x00\x00\x00";
-    tell(rt, "sbgp in row structs, rows cut", sbgp_agrees(cut, 23))?;
+    tell(
+        rt,
+        "sbgp in row structs, rows cut",
+        sbgp_agrees(cut, Some(Refusal::RowsCut)),
+    )?;
     let many =
         b"\x01\x00\x00\x00rap \x00\x00\x00\x09\x00\x00\x00\x05\x00\x00\x00\x01\x00\x00\x00\x01\x00\x00\x00\x01\x00\x00\x00\x01\x00\x00\x00\x01\x00\x00\x00\x01\x00\x00\x00\x01\x00\x00\x00\x01\x00\x00\x00\x01\x00\x00\x00\x01";
     tell(
         rt,
         "sbgp in row structs, a record too few",
-        sbgp_agrees(many, 29),
+        sbgp_agrees(many, Some(Refusal::NoRecordLeft)),
     )
 }
 
 fn run_csgp(rt: &impl Print) -> io::Result<()> {
     let joined = b"\x00\x00\x00\x00rap \x00\x00\x00\x02\x12\x23\x55\x60";
-    tell(rt, "csgp in row structs", csgp_agrees(joined, 0))?;
+    tell(rt, "csgp in row structs", csgp_agrees(joined, None))?;
     let no_index = b"\x00\x00\x00\x00rap \x00\x00\x00\x02\x12\x23";
     tell(
         rt,
         "csgp in row structs, an index cut",
-        csgp_agrees(no_index, 27),
+        csgp_agrees(no_index, Some(Refusal::IndexCut)),
     )
 }
 
@@ -258,13 +270,13 @@ fn run_csgp_over(rt: &impl Print) -> io::Result<()> {
     tell(
         rt,
         "csgp in row structs, a record too few",
-        csgp_agrees(period, 29),
+        csgp_agrees(period, Some(Refusal::NoRecordLeft)),
     )?;
     let over = b"\x00\x00\x00\x0crap \x00\x00\x00\x02\x1f\xff\xff\xff\xf1\x00\x00\x00\x01\x11";
     tell(
         rt,
         "csgp in row structs, a row too long",
-        csgp_agrees(over, 28),
+        csgp_agrees(over, Some(Refusal::RowCountOver)),
     )
 }
 

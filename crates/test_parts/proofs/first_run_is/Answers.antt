@@ -3,4 +3,4 @@ use Rattle.test_parts.proofs.first_run_is.Goals as goal
 
 pub next_run-requires : goal.next_run-requires
 next_run-requires c =
-    rw c.first_run.ensures (rw c.in-Table.is at c.read_table.ensures).whole
+    rw c.first_run.ensures (rw c.in-Ok.is at c.read_table.ensures).whole

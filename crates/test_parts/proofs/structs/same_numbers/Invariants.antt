@@ -1,9 +1,0 @@
--- The loop's invariant: the place is within the eight numbers.
-use Prim.Native.Nat.{◌-◌, ◌≤◌}
-use Rattle.test_parts.proofs.structs.same_numbers.Given as goal
-
-abbrev pub invariant-loop-k : goal.invariant-loop-k
-invariant-loop-k l = l.k ≤ 8
-
-abbrev pub decreases-loop-k : goal.decreases-loop-k
-decreases-loop-k l = 8 - l.k
