@@ -6,12 +6,6 @@ ghost use Rattle.use_profile.specs.Survey.{told_gaps, AtMost, Fit, largest};
 
 use super::Gaps;
 
-fn larger(a: u64, b: u64) -> u64
-    ensures { result ≡ max a b }
-{
-    if a < b { b } else { a }
-}
-
 // With some more where all are of these kinds.
 fn grown(all: bool, n: u64, more: u64) -> u64
     requires { n + more ≤ largest }
@@ -48,7 +42,7 @@ pub fn one_more(gap: bool, g: Gaps) -> Gaps
             whole: g.whole,
             front: grown(g.whole, g.front, 1),
             back,
-            longest: larger(g.longest, back),
+            longest: g.longest.max(back),
         };
     }
     Gaps {
@@ -68,7 +62,7 @@ pub fn joined(a: Gaps, b: Gaps) -> Gaps
         whole: both(a.whole, b.whole),
         front: grown(a.whole, a.front, b.front),
         back: grown(b.whole, b.back, a.back),
-        longest: larger(larger(a.longest, b.longest), a.back + b.front),
+        longest: a.longest.max(b.longest).max(a.back + b.front),
     }
 }
 
@@ -96,6 +90,6 @@ pub fn repeated(m: u32, g: Gaps) -> Gaps
         whole: false,
         front: g.front,
         back: g.back,
-        longest: larger(g.longest, g.back + g.front),
+        longest: g.longest.max(g.back + g.front),
     }
 }

@@ -72,12 +72,10 @@ fn survey_pattern(
     let turns = pattern.count / pattern.length;
     let mut turn = nothing_seen();
     let mut last = no_gaps();
-    let mut i: u32 = 0;
-    while i < used {
+    for i in 0..used {
         let kind = index_kind(s, head, marks, index_at(table_s, pattern, i));
         turn = seen_more(kind, turn);
-        i = i + 1;
-        last = up_to_cut(i, cut, turn.gaps, last);
+        last = up_to_cut(i + 1, cut, turn.gaps, last);
     }
     Seen {
         gaps: joined(repeated(turns, turn.gaps), last),
@@ -99,13 +97,9 @@ pub fn survey_table(
 {
     let mut here = first_pattern(table);
     let mut seen = nothing_seen();
-    loop {
-        match next_pattern(table_s, table, here) {
-            Some((pattern, behind)) => {
-                seen = seen_behind(seen, survey_pattern(table_s, pattern, s, head, marks));
-                here = behind;
-            }
-            None => return seen,
-        }
+    while let Some((pattern, behind)) = next_pattern(table_s, table, here) {
+        seen = seen_behind(seen, survey_pattern(table_s, pattern, s, head, marks));
+        here = behind;
     }
+    seen
 }

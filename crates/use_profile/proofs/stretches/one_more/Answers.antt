@@ -5,7 +5,7 @@ use Rattle.use_profile.proofs.Steps.{step-more}
 use Rattle.use_profile.proofs.stretches.one_more.Goals as goal
 
 pub returns-then-gap : goal.returns-then-gap
-returns-then-gap c = rw (c.if-gap.true, c.larger.ensures, c.grown.ensures) (step-more _ _ _ _)
+returns-then-gap c = rw (c.if-gap.true, c.max.ensures, c.grown.ensures) (step-more _ _ _ _)
 
 pub returns : goal.returns
 unfolding step

@@ -15,4 +15,4 @@ returns-then-g c =
 
 pub returns : goal.returns
 returns c =
-    rw c.larger.ensures (sym (times-parted _ _ c.if-m-eq0.false c.if-m-eq1.false c.if-g.false))
+    rw c.max.ensures (sym (times-parted _ _ c.if-m-eq0.false c.if-m-eq1.false c.if-g.false))

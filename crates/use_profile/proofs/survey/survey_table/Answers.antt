@@ -55,6 +55,6 @@ loop-pattern-preserved c =
     let more = entered-more c.args.s.now (ahead_in c.args.table_s.now c.args.table (all_in c.args.table)) c.loop-pattern.invariant.1 (step (goal.at.loop-pattern-preserved c).In-Some).first in
     ((step (goal.at.loop-pattern-preserved c).In-Some).whole, more c.survey_pattern.ensures c.seen_behind-seen.ensures)
 
-pub returns-in-None : goal.returns-in-None
-returns-in-None c =
-    entered_all c.args.s.now (ahead_in c.args.table_s.now c.args.table (all_in c.args.table)) c.loop-pattern.invariant.1 (rw c.in-None.is at c.next_pattern.ensures)
+pub returns : goal.returns
+returns c =
+    entered_all c.args.s.now (ahead_in c.args.table_s.now c.args.table (all_in c.args.table)) c.loop-pattern.invariant.1 (rw c.in_default.is at c.next_pattern.ensures)
