@@ -147,10 +147,7 @@ fn written_over(numbers: usize, rows: usize) -> Result<usize, Refusal>
 fn accepted(answer: Result<usize, Refusal>) -> usize
     ensures { result ≡ accepted_in answer }
 {
-    match answer {
-        Ok(n) => n,
-        Err(_) => 0,
-    }
+    answer.unwrap_or(0)
 }
 
 // The records of a run of numbers are written in front; the rows behind them stay.
