@@ -10,6 +10,7 @@ ghost use Rattle.film_listing.specs.Listing.{length_numbers, Lists};
 
 use base_fields::refusal::Refusal;
 use base_ids::RowNumber;
+use listing_cue::CueLengths;
 
 // out: place and length of the body of the stbl of a track, counted from 0.
 pub fn film_find_stbl(s: &[u8], track: u32, out: &mut [u64; 2]) -> u32
