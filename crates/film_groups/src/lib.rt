@@ -12,6 +12,7 @@ ghost use Rattle.film_groups.specs.Groups.{group_numbers, needs_numbers};
 
 use base_fields::refusal::Refusal;
 use base_ids::{SampleCount, SampleNumber};
+use listing_needs::ListingNeeds;
 use use_sample_group::SampleGroup;
 
 // Hands four numbers out.
@@ -25,23 +26,23 @@ fn put_numbers(kind: u64, index: u64, place: u64, size: u64, out: &mut [u64; 4])
 }
 
 // Hands a group out: kind, index, place and length of the entry.
-fn put_group(group: SampleGroup, out: &mut [u64; 4]) -> u32
+fn put_group(group: Result<SampleGroup, Refusal>, out: &mut [u64; 4]) -> u32
     ensures { Returns (told_group group) group_numbers out.old out.new result }
 {
     match group {
-        SampleGroup::Outside => {
+        Ok(SampleGroup::Outside) => {
             put_numbers(0, 0, 0, 0, out);
             0
         }
-        SampleGroup::Missing(index) => {
+        Ok(SampleGroup::Missing(index)) => {
             put_numbers(1, index.0 as u64, 0, 0, out);
             0
         }
-        SampleGroup::Entry(index, place, size) => {
-            put_numbers(2, index.0 as u64, place as u64, size as u64, out);
+        Ok(SampleGroup::Entry(index, part)) => {
+            put_numbers(2, index.0 as u64, part.place as u64, part.size as u64, out);
             0
         }
-        SampleGroup::Refused(n) => n,
+        Err(refusal) => refusal.number(),
     }
 }
 
