@@ -6,7 +6,7 @@ ghost use Rattle.film_status.specs.Status.{Returns};
 ghost use Rattle.film_profile.specs.Profile.{verdict_numbers, ReturnsVerdict, ReturnsFileVerdict};
 
 use base_fields::refusal::Refusal;
-
+use use_profile::Rule;
 
 // Hands the verdict out.
 fn put_verdict(verdict: Result<Option<Rule>, Refusal>, out: &mut [u64; 1]) -> u32
@@ -18,7 +18,7 @@ fn put_verdict(verdict: Result<Option<Rule>, Refusal>, out: &mut [u64; 1]) -> u3
             0
         }
         Ok(Some(rule)) => {
-            out[0] = rule as u64;
+            out[0] = rule.number() as u64;
             0
         }
         Err(refusal) => refusal.number(),
