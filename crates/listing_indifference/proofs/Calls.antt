@@ -9,7 +9,9 @@ use Prim.Native.Nat.{ℕ, ◌*◌}
 use native.Mathlib.Omega.{arith}
 use lib.ListN.{length, take}
 use lib.Seq.{take-append_seam}
+use Rattle.std.specs.Prelude.{Result, Ok, Err}
 use Rattle.base_fields.specs.Answer.{Answer, given, none, refused}
+use Rattle.base_fields.specs.declared.refusal.Refusal.{Refusal}
 use Rattle.base_fields.specs.Span.{Span, bytes_at}
 use Rattle.base_fields.proofs.Answers.{given_inj, refused-given}
 use Rattle.table_rows.specs.Row.{record_numbers, flat, records_in}
@@ -18,25 +20,24 @@ use Rattle.atom_path.specs.Path.{stbl_at}
 use Rattle.listing_spec.specs.Cue.{Cue, cue_call, Lengths}
 use Rattle.listing_cue.specs.Told.{told_cue, GivesCue}
 use Rattle.listing_cue.specs.declared.CueLengths.{CueLengths}
-use Rattle.listing_cue.specs.declared.CueListing.{CueListing}
-use Rattle.listing_cue.specs.declared.CueListing.TheVariants as cue
 use Rattle.listing_cue.proofs.DemandThree.{Call}
 use Rattle.listing_file.specs.File.{file_listing}
 use Rattle.listing_file.proofs.DemandThree.{FileCall}
 use Rattle.listing_indifference.specs.Body.{Indifferent}
 use Rattle.listing_indifference.proofs.Indifferent.{indifferent}
+use Rattle.listing_indifference.proofs.RefusalNumbers.{number_inj}
 
 -- the definition's answer
 pub calls_same : (t : ℕ) (s s' : List ℕ) → Indifferent t s s' → (rows rows' out out' : List ℕ) → length rows ≡ length rows' → length out ≡ length out'
     → cue_call s t rows out ≡ cue_call s' t rows' out'
 calls_same t s s' i rows rows' out out' e f = rw (← e, ← f) (indifferent t s s' i (records_in rows) (length out))
 
--- an enum's answer tells it
-told_inj : (r r' : CueListing) → told_cue r ≡ told_cue r' → r ≡ r'
-told_inj (cue.Listing m) (cue.Listing n) e = ap (λ (l : Lengths). cue.Listing (record { listing = l.listing; rows = l.rows })) (given_inj e)
-told_inj (cue.Listing m) (cue.Refused n) e = absurd (refused-given (sym e))
-told_inj (cue.Refused m) (cue.Listing n) e = absurd (refused-given e)
-told_inj (cue.Refused m) (cue.Refused n) e = cc
+-- a result's answer tells it
+told_inj : (r r' : Result CueLengths Refusal) → told_cue r ≡ told_cue r' → r ≡ r'
+told_inj (Ok m) (Ok n) e = ap (λ (l : Lengths). Ok (record { listing = l.listing; rows = l.rows })) (given_inj e)
+told_inj (Ok m) (Err n) e = absurd (refused-given (sym e))
+told_inj (Err m) (Ok n) e = absurd (refused-given e)
+told_inj (Err m) (Err n) e = ap (λ (r : Refusal). Err r) (number_inj m n cc)
 
 -- a call's lent run of numbers and output, before and after it, and its result
 pub record Runs : Type 0 where
@@ -44,7 +45,7 @@ pub record Runs : Type 0 where
   pub output : List ℕ
   pub rows_after : List ℕ
   pub output_after : List ℕ
-  pub result : CueListing
+  pub result : Result CueLengths Refusal
 
 -- all that was lent is as it was
 pub record Kept (a : Runs) : Type 0 where
@@ -54,15 +55,15 @@ pub record Kept (a : Runs) : Type 0 where
 -- the same answer; of a listing, the same rows and the same bytes in front; of a refusal, nothing written
 pub record SameAnswer (a b : Runs) : Type 0 where
   pub result : a.result ≡ b.result
-  pub rows : (n : CueLengths) → a.result ≡ cue.Listing n → take (record_numbers * n.rows) a.rows_after ≡ take (record_numbers * n.rows) b.rows_after
-  pub output : (n : CueLengths) → a.result ≡ cue.Listing n → take n.listing a.output_after ≡ take n.listing b.output_after
-  pub kept : (n : ℕ) → a.result ≡ cue.Refused n → Kept a × Kept b
+  pub rows : (n : CueLengths) → a.result ≡ Ok n → take (record_numbers * n.rows) a.rows_after ≡ take (record_numbers * n.rows) b.rows_after
+  pub output : (n : CueLengths) → a.result ≡ Ok n → take n.listing a.output_after ≡ take n.listing b.output_after
+  pub kept : (refusal : Refusal) → a.result ≡ Err refusal → Kept a × Kept b
 
 abbrev pub Gives : Answer Cue → Runs → Type 0
 Gives told a = GivesCue told a.rows a.rows_after a.output a.output_after a.result
 
 -- what an accepted call left in front
-front : (told : Answer Cue) (a : Runs) → Gives told a → {n : CueLengths} → a.result ≡ cue.Listing n
+front : (told : Answer Cue) (a : Runs) → Gives told a → {n : CueLengths} → a.result ≡ Ok n
     → (x : Cue) × (told ≡ given x) × (take (record_numbers * n.rows) a.rows_after ≡ flat x.rows) × (take n.listing a.output_after ≡ x.bytes)
 front (given x) a g {n} e =
     let f = given_inj (rw e at g.answer) in
@@ -77,7 +78,7 @@ front none a g e = let f = rw e at g.answer in let z : ◌≡◌ {A = ℕ} 0 1 =
 front (refused n) a g e = let f = rw e at g.answer in absurd (refused-given (sym f))
 
 -- a refused call wrote nothing
-unwritten : (told : Answer Cue) (a : Runs) → Gives told a → {n : ℕ} → a.result ≡ cue.Refused n → Kept a
+unwritten : (told : Answer Cue) (a : Runs) → Gives told a → {refusal : Refusal} → a.result ≡ Err refusal → Kept a
 unwritten (given x) a g e = let f = rw e at g.answer in absurd (refused-given f)
 unwritten none a g e = record { rows = g.rows; output = g.output }
 unwritten (refused n) a g e = record { rows = g.rows; output = g.output }

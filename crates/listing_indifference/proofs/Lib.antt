@@ -20,3 +20,4 @@ pub mod ExampleNone
 pub mod ExampleEntries
 pub mod Accepted
 pub mod Outside
+pub mod RefusalNumbers
