@@ -10,7 +10,7 @@ use lib.Seq.{drop-cons}
 use native.Mathlib.Numerals.{add-one}
 use borrow.Author.Tests.{lt-ltb, le-ltb, le-leb, lt-leb}
 use Rattle.base_fields.specs.Answer as answer
-use Rattle.base_fields.specs.Answer.{Answer, given, refused, choose, none_if, and_then, input_limit}
+use Rattle.base_fields.specs.Answer.{Answer, given, refused, choose, and_then, input_limit}
 use Rattle.base_fields.proofs.Answers.{given_inj}
 use Rattle.base_fields.specs.Number.{be_at}
 use Rattle.table_sync.specs.Sync.{numbers_in, rising, stss, among, last_up_to, dependencies_in, dependency_of, dependency_at}
