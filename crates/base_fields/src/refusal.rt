@@ -78,3 +78,11 @@ impl Refusal {
         self as u32
     }
 }
+
+impl From<Refusal> for u32 {
+    ghost from_gives = { λ refusal n. n ≡ number refusal };
+
+    fn from(refusal: Refusal) -> u32 {
+        refusal.number()
+    }
+}

@@ -3,7 +3,6 @@
 
 ghost use Rattle.std.specs.Prelude.{◌≤◌, length};
 
-use base_fields::refusal::Refusal;
 use std::io;
 use std::io::Read;
 
@@ -20,8 +19,9 @@ pub fn print_listing(rt: &impl Print, listing: &[u8]) -> io::Result<()> {
     println!(rt; "")
 }
 
-pub fn print_refused(rt: &impl Print, refusal: Refusal) -> io::Result<()> {
-    let n = refusal.number();
+// A refusal, or the number of one.
+pub fn print_refused<N: Into<u32>>(rt: &impl Print, refusal: N) -> io::Result<()> {
+    let n: u32 = refusal.into();
     println!(rt; "refused {n}")
 }
 
