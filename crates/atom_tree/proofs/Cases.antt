@@ -10,7 +10,8 @@ use borrow.Author.Tests.{lt-ltb, le-ltb, le-leb, lt-leb, ne_eqb}
 use Rattle.base_fields.specs.Answer as answer
 use Rattle.base_fields.specs.Answer.{Answer, given, refused, input_limit, and_then}
 use Rattle.base_fields.specs.Number.{be_at}
-use Rattle.atom_tree.specs.Atom.{Known, Header, Child, last_place, header, extended, by_size, header_at, child_at, past_end, end_of, inside, sized_header}
+use Rattle.atom_tree.specs.Atom.{Known, Header, Child, present, last_place, header, extended, by_size, header_at, child_at, past_end, end_of, inside, sized_header}
+use Rattle.base_fields.specs.Span.{Span}
 
 -- a header of n bytes and a known size
 module _ (s : List ℕ) (p size n : ℕ) where
@@ -92,3 +93,6 @@ module _ (s : List ℕ) (p : ℕ) (end : Known) where
     pub child-before : past_end p end ≡ false → walked s p end ≡ child_at s p end
     unfolding child_at
     child-before e = simp (le-ltb input_limit (length s) short, e)
+
+pub under_envelope : (s : List ℕ) (envelope : ℕ) (b : Span) → b.size ≤ envelope → present s none b ≡ present s (some envelope) b
+under_envelope s envelope b h = simp (le-ltb envelope b.size h)

@@ -15,7 +15,7 @@ use Rattle.group_entries.specs.Same.{same_decoded, is_same}
 use Rattle.group_entries.proofs.Same.{true-told, false-told}
 use Rattle.group_alike.specs.Front.{front_size}
 use Rattle.group_alike.specs.Alike.{alike}
-use Rattle.listing_theorem.specs.Meaning.{value}
+use Rattle.listing_theorem.specs.Meaning.{outside, missing, value}
 use Rattle.listing_meanings.specs.Meant.{meant_at, Means, GivesLike, entry_meaning}
 use Rattle.listing_meanings.specs.declared.MeaningAt.{MeaningAt}
 
@@ -37,6 +37,9 @@ module _ (t : ℕ) (s : List ℕ) (a b : MeaningAt) where
   pub not-like : (meant_at t s a ≡ meant_at t s b → ⊥) → GivesLike t s a b false
   not-like h = record { same = λ r. absurd (let z : ◌≡◌ {A = ℕ} 0 1 = cc in omega arith); different = λ r. h }
 
+pub outside-missing : outside ≡ missing → ⊥
+outside-missing e = let z : ◌≡◌ {A = ℕ} 0 1 = cc in omega arith
+
 -- an entry that decodes
 module _ (t : ℕ) (s : List ℕ) {p : Part} (m : Means t s (entry_meaning p)) where
   abbrev entry : List ℕ
@@ -54,6 +57,12 @@ module _ (t : ℕ) (s : List ℕ) {p : Part} (m : Means t s (entry_meaning p)) w
   pub valued : meant_at t s (entry_meaning p) ≡ given (value decoded)
   valued = m.given ∙ sym first.2
 
+  pub entry-outside : meant_at t s (entry_meaning p) ≡ given outside → ⊥
+  entry-outside e = let f : value decoded ≡ outside = given_inj (sym valued ∙ e) in let z : ◌≡◌ {A = ℕ} 0 1 = cc in omega arith
+
+  pub entry-missing : meant_at t s (entry_meaning p) ≡ given missing → ⊥
+  entry-missing e = let f : value decoded ≡ missing = given_inj (sym valued ∙ e) in let z : ◌≡◌ {A = ℕ} 0 1 = cc in omega arith
+
 -- two entries that decode
 module _ (t : ℕ) (s : List ℕ) {p q : Part} (short : length s ≤ input_limit) (a : Means t s (entry_meaning p)) (b : Means t s (entry_meaning q)) where
   told : alike t (entry t s a) (entry t s b) ≡ given (is_same (same_decoded (decoded t s a) (decoded t s b)))
@@ -62,12 +71,12 @@ module _ (t : ℕ) (s : List ℕ) {p q : Part} (short : length s ≤ input_limit
       within-short (entry t s a) _ (part-short s (span_of p) short)
       ∙ within-short (entry t s b) _ (part-short s (span_of q) short) ∙ rw (decodes t s a, decodes t s b) refl
 
-  told_same : given true ≡ alike t (entry t s a) (entry t s b) → meant_at t s (entry_meaning p) ≡ meant_at t s (entry_meaning q)
+  pub told_same : given true ≡ alike t (entry t s a) (entry t s b) → meant_at t s (entry_meaning p) ≡ meant_at t s (entry_meaning q)
   told_same e =
       let v = true-told (same_decoded (decoded t s a) (decoded t s b)) (sym (given_inj (e ∙ told))) in
       valued t s a ∙ ap (λ (x : Decoded). given (value x)) v ∙ sym (valued t s b)
 
-  told-different : given false ≡ alike t (entry t s a) (entry t s b) → meant_at t s (entry_meaning p) ≡ meant_at t s (entry_meaning q) → ⊥
+  pub told-different : given false ≡ alike t (entry t s a) (entry t s b) → meant_at t s (entry_meaning p) ≡ meant_at t s (entry_meaning q) → ⊥
   told-different e m =
       let f : value (decoded t s a) ≡ value (decoded t s b) = given_inj (sym (valued t s a) ∙ m ∙ valued t s b) in
       false-told (same_decoded (decoded t s a) (decoded t s b)) (sym (given_inj (e ∙ told))) (cc)

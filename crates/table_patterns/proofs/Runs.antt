@@ -1,8 +1,9 @@
--- Runs: a run of a pattern's indices as one of its samples.
+-- Runs: one index, one more of the same, and a run of a pattern's indices as one of its samples.
 use mathlib.Core.Path.{◌≡◌, ap, sym, ◌∙◌}
 use Prim.Native.Nat.{ℕ, ◌+◌, ◌-◌, ◌*◌, ◌%◌, ◌^◌, ◌≤◌, ◌<◌}
-use native.Mathlib.Nat.{mul-suc, mul-le-mul_left, mod-lt, mod-add-mod, mod-eq_of_lt}
+use native.Mathlib.Nat.{add-zero, mul-suc, mul-le-mul_left, mod-lt, mod-add-mod, mod-eq_of_lt}
 use native.Mathlib.Omega.{arith}
+use borrow.Author.Count.{below_more}
 use mathlib.Core.Bool.{Bool}
 use mathlib.Core.List.{List}
 use Rattle.base_fields.proofs.Bits.{bits_below}
@@ -16,6 +17,24 @@ use Rattle.table_patterns.proofs.Indices.{index-at-turn}
 -- a field before the end of its run ends within it
 pub field_end : (width place i end : ℕ) → i < end → place + width * i + width ≤ place + width * end
 field_end width place i end h = omega (arith, mul-suc width i, mul-le-mul_left width h)
+
+module _ (index : ℕ → ℕ) (k end : ℕ) where
+  pub run-one : {v : ℕ} → k < end → index k ≡ v → AlikeIndices index k end (record { count = 1; index = v })
+  run-one {v} h e =
+      record {
+        some = omega arith;
+        within = omega arith;
+        same = λ j l. let z : j ≡ 0 = omega arith in rw (z, add-zero) e;
+      }
+
+  pub run_more : {n v : ℕ} → AlikeIndices index k end (record { count = n; index = v }) → k + n < end → index (k + n) ≡ v →
+      AlikeIndices index k end (record { count = n + 1; index = v })
+  run_more {n} {v} r h e =
+      record {
+        some = omega arith;
+        within = omega arith;
+        same = below_more (λ (j : ℕ). index (k + j) ≡ v) n r.same e;
+      }
 
 -- alike fields hold alike indices
 pub run-valued : (marks : Bool) (width place k end : ℕ) (s : List ℕ) (r : Run) {v : ℕ} → AlikeIndices (field_number width s place) k end r →

@@ -25,6 +25,12 @@ use Rattle.table_replay.proofs.Within.{within_step, filling_step}
 pub next-onward : (first k : ℕ) → first ≤ k → first ≤ k + 1
 next-onward first k h = omega arith
 
+pub next-below : (k last : ℕ) → k < last → k + 1 ≤ last
+next-below k last h = omega arith
+
+pub next-less : (k last : ℕ) → k < last → last - (k + 1) < last - k
+next-less k last h = omega arith
+
 -- the place of its index
 pub next_place : (p : PatternAt) (first k at : ℕ) → first ≤ k → at ≡ p.indices + p.width * (first % p.length + (k - first)) →
     at + p.width ≡ p.indices + p.width * (first % p.length + (k + 1 - first))

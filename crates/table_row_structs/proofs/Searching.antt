@@ -1,14 +1,18 @@
 -- A lookup row by row: what the rows from row i on give the samples still to pass.
 use mathlib.Core.Path.{◌≡◌}
 use Prim.Native.Nat.{ℕ, ◌+◌, ◌-◌, ◌<◌, ◌≤◌}
+use native.Mathlib.Decide.{dec_lt}
 use native.Mathlib.Numerals.{add-one}
+use native.Mathlib.Omega.{arith}
 use mathlib.Core.List.{List}
 use lib.ListN.{length, get_or, drop, drop_of_length-le}
 use lib.Seq.{drop-cons}
 use borrow.Author.Tests.{lt-ltb, le-ltb}
 use Rattle.table_rows.specs.Row.{index_at}
-use Rattle.table_row_structs.specs.Records.{no_row, record_rows}
+use Rattle.base_ids.specs.Limits.{record_limit}
+use Rattle.table_row_structs.specs.Records.{no_row, record_rows, read_count}
 use Rattle.table_row_structs.specs.declared.SampleToGroupEntry.{SampleToGroupEntry}
+use Rattle.table_row_structs.proofs.Sums.{read_all, read_none}
 
 module _ (rows : List SampleToGroupEntry) (i left : ℕ) where
   module _ (h : i < length rows) where
@@ -26,3 +30,11 @@ module _ (rows : List SampleToGroupEntry) (i left : ℕ) where
   pub found-none : length rows ≤ i → index_at (record_rows (drop i rows)) left ≡ 0
   unfolding index_at
   found-none h = rw (drop_of_length-le rows {i = i} h)
+
+-- where a row is read, all are
+pub read_if : (n k : ℕ) → k < read_count n → read_count n ≡ n
+read_if n k h =
+    elim (dec_lt record_limit n) [
+      | yes g ↦ absurd (omega (arith, read_none n g))
+      | no g ↦ read_all n (omega arith)
+    ]

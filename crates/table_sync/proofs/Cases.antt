@@ -8,12 +8,12 @@ use lib.Dec.{ltb, eqb}
 use lib.ListN.{length, get_or, drop, drop_of_length-le}
 use lib.Seq.{drop-cons}
 use native.Mathlib.Numerals.{add-one}
-use borrow.Author.Tests.{lt-ltb, le-ltb, le-leb, lt-leb}
+use borrow.Author.Tests.{lt-ltb, le-ltb, le-leb, lt-leb, eq-eqb, ne_eqb}
 use Rattle.base_fields.specs.Answer as answer
-use Rattle.base_fields.specs.Answer.{Answer, given, refused, choose, and_then, input_limit}
+use Rattle.base_fields.specs.Answer.{Answer, given, refused, choose, none_if, and_then, input_limit}
 use Rattle.base_fields.proofs.Answers.{given_inj}
 use Rattle.base_fields.specs.Number.{be_at}
-use Rattle.table_sync.specs.Sync.{numbers_in, rising, stss, among, last_up_to, dependencies_in, dependency_of, dependency_at}
+use Rattle.table_sync.specs.Sync.{numbers_in, rising, stss, among, is_sync, last_up_to, last_sync, dependencies_in, dependency_of, dependency_at}
 use Rattle.table_sync.proofs.Records.{record_count, record_at}
 use Rattle.table_sync.proofs.Numbers.{last_from, last-rising, among-last}
 
@@ -88,6 +88,30 @@ pub sync_told : (told : Answer (List ℕ)) (sample : ℕ) {n : ℕ} → and_then
 sync_told (given l) sample e = ap given (rw (← given_inj e) (among-last (sample + 1) l (omega arith)))
 sync_told answer.none sample e = let z : ◌≡◌ {A = ℕ} 0 1 = cc in absurd (omega arith)
 sync_told (refused k) sample e = let z : ◌≡◌ {A = ℕ} 0 1 = cc in absurd (omega arith)
+
+pub same-refusal : {A B C : Type 0} (told : Answer A) (f : A → B) (g : A → Answer C) (k : ℕ) → and_then told (λ l. given (f l)) ≡ refused k → refused k ≡ and_then told g
+same-refusal (given l) f g k e = let z : ◌≡◌ {A = ℕ} 0 1 = cc in absurd (omega arith)
+same-refusal answer.none f g k e = let z : ◌≡◌ {A = ℕ} 0 1 = cc in absurd (omega arith)
+same-refusal (refused n) f g k e = let z : n ≡ k = cc in rw z refl
+
+module _ (s : List ℕ) (sample : ℕ) {n : ℕ} (told : and_then (stss s) (λ l. given (last_up_to (sample + 1) l)) ≡ given n) where
+  pub sync_yes : n ≡ sample + 1 → given true ≡ is_sync s sample
+  sync_yes e = ap given (sym (eq-eqb n (sample + 1) e)) ∙ sync_told (stss s) sample told
+
+  pub sync_no : (n ≡ sample + 1 → ⊥) → given false ≡ is_sync s sample
+  sync_no e = ap given (sym (ne_eqb n (sample + 1) e)) ∙ sync_told (stss s) sample told
+
+  last-told : (a : Answer (List ℕ)) → and_then a (λ l. given (last_up_to (sample + 1) l)) ≡ given n
+      → none_if (eqb n 0) (given (n - 1)) ≡ and_then a (λ l. none_if (eqb (last_up_to (sample + 1) l) 0) (given (last_up_to (sample + 1) l - 1)))
+  last-told (given l) e = rw (given_inj e) refl
+  last-told answer.none e = let z : ◌≡◌ {A = ℕ} 0 1 = cc in absurd (omega arith)
+  last-told (refused k) e = let z : ◌≡◌ {A = ℕ} 0 1 = cc in absurd (omega arith)
+
+  pub last_none : n ≡ 0 → answer.none ≡ last_sync s sample
+  last_none e = (rw e refl) ∙ last-told (stss s) told
+
+  pub last_some : (n ≡ 0 → ⊥) → given (n - 1) ≡ last_sync s sample
+  last_some e = simp (ne_eqb n 0 e) at (last-told (stss s) told)
 
 -- the greatest number up to a limit, by what the table answers
 pub number-given : (s : List ℕ) (limit : ℕ) {l : List ℕ} {n : ℕ} → stss s ≡ given l → last_up_to limit l ≡ n → given n ≡ and_then (stss s) (λ numbers. given (last_up_to limit numbers))
