@@ -31,6 +31,7 @@ fn parent_end(known: u32, end: u64) -> Option<u64>
 }
 
 // Hands a header out.
+#[inline(always)]
 fn put_header(read: Result<Option<AtomHeader>, Refusal>, out: &mut [u64; 5]) -> u32
     ensures { Returns (told_header read) header_numbers out.old out.new result }
 {
@@ -70,6 +71,7 @@ fn put_child(walked: Result<Option<Child>, Refusal>, out: &mut [u64; 6]) -> u32
 }
 
 // Hands a body out.
+#[inline(always)]
 fn put_payload(body: Result<Option<BodyAt>, Refusal>, out: &mut [u64; 2]) -> u32
     ensures { Returns (told_payload body) body_numbers out.old out.new result }
 {

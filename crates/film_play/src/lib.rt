@@ -41,6 +41,7 @@ fn put_head(h: PlayHead, head: &mut [u64; 4])
 }
 
 // Hands out what a call gave; with a refusal nothing is written.
+#[inline(always)]
 fn put_turn(t: Turn, head: &mut [u64; 4], out: &mut [u64; 1]) -> u32
     ensures { GivesPlay (told_played t) head.old head.new out.old out.new result }
 {
