@@ -21,7 +21,7 @@ fn print_cue(
             let end = lengths.listing;
             print_listing(rt, &listing[..end])
         }
-        Err(refusal) => print_refused(rt, refusal),
+        Err(refusal) => print_refused(rt, refusal.into()),
     }
 }
 

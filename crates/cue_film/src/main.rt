@@ -42,7 +42,7 @@ fn print_cue(
                 print_listing(rt, told)
             }
         }
-        Err(refusal) => print_refused(rt, refusal),
+        Err(refusal) => print_refused(rt, refusal.into()),
     }
 }
 
@@ -100,7 +100,7 @@ fn print_moov(
 fn print_long(rt: &impl Print, file: &mut File, film: &mut [u8], asked: Asked) -> io::Result<()> {
     let moov = match find_moov(file) {
         Ok(moov) => moov,
-        Err(NoMoov::Refused(refusal)) => return print_refused(rt, refusal),
+        Err(NoMoov::Refused(refusal)) => return print_refused(rt, refusal.into()),
         Err(NoMoov::Failed(_)) => return print_no_film(rt),
     };
     let Some(size) = moov.size else {

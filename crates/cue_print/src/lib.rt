@@ -19,9 +19,7 @@ pub fn print_listing(rt: &impl Print, listing: &[u8]) -> io::Result<()> {
     println!(rt; "")
 }
 
-// A refusal, or the number of one.
-pub fn print_refused<N: Into<u32>>(rt: &impl Print, refusal: N) -> io::Result<()> {
-    let n: u32 = refusal.into();
+pub fn print_refused(rt: &impl Print, n: u32) -> io::Result<()> {
     println!(rt; "refused {n}")
 }
 
